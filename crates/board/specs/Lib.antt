@@ -1,0 +1,3 @@
+-- The board's words, as document 01 has them.
+pub mod Job
+pub mod Board

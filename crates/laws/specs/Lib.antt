@@ -1,0 +1,3 @@
+-- Sums and counts, and parts of a list.
+pub mod Sum
+pub mod Part
