@@ -1,3 +1,4 @@
 -- The board's words, as document 01 has them.
 pub mod Job
 pub mod Board
+pub mod Rule

@@ -1,3 +1,7 @@
 -- The laws of the definitions in specs/.
 pub mod Sum
+pub mod Greatest
+pub mod Remainder
+pub mod Lowest
+pub mod Test
 pub mod Part

@@ -1,3 +1,5 @@
--- Sums and counts, and parts of a list.
+-- Sums and counts, searches and tests of all numbers below a bound, and parts of a list.
 pub mod Sum
+pub mod Lowest
+pub mod Test
 pub mod Part

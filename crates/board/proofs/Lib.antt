@@ -1,0 +1,11 @@
+-- The laws of the board's arithmetic.
+pub mod Loads
+pub mod Excess
+pub mod Limit
+pub mod Change
+pub mod Spread
+pub mod Deal
+pub mod Halves
+pub mod Rule
+pub mod Case
+pub mod Sound

@@ -1,0 +1,98 @@
+-- What a verdict that is done has shown.
+-- Assumes nothing.
+use mathlib.Core.Path.{_≡_, refl, sym, _∙_, ap}
+use mathlib.Core.Bool.{Bool, true, false, not, _||_, true≢false}
+use mathlib.Core.List.{List}
+use Prim.Native.Nat.{ℕ, _%_, _≤_, _<_}
+use native.Mathlib.Omega.{arith}
+use lib.Dec.{ltb, leb, eqb}
+use lib.ListN.{length}
+use borrow.Author.Tests.{ltb-false, leb-false, eqb-true, eqb-false, not-false}
+use Rattle.words.specs.declared.Refusal.{Refusal}
+use Rattle.words.specs.declared.Verdict.{Verdict}
+use Rattle.words.specs.declared.Verdict.the-variants.{Done, Refused}
+use Rattle.words.specs.Verdict.{firstRefusal}
+use Rattle.words.specs.Number.{word}
+use Rattle.words.proofs.Order.{then-first, then-second, passed, first-done}
+use Rattle.job.specs.Job.{netsAt, jobLength, fIn, cIn, mIn, nIn, firstIn, secondIn}
+use Rattle.job.specs.Check.{outside, rangesVerdict, netVerdict, netsVerdict, jobVerdict, numbersIn, noBoard, boardOf, Ranged, Joins, Passed}
+
+or-false : (a b : Bool) → (a || b) ≡ false → (a ≡ false) × (b ≡ false)
+or-false true b h = absurd (true≢false h)
+or-false false b h = (refl, h)
+
+inside : (low high x : ℕ) → outside low high x ≡ false → (low ≤ x) × (x ≤ high)
+unfolding outside
+inside low high x h = let o = or-false (ltb x low) (ltb high x) h in (ltb-false _ _ (o .0), ltb-false _ _ (o .1))
+
+pub ranged : (f c m n : ℕ) → rangesVerdict f c m n ≡ Done → Ranged f c m n
+unfolding rangesVerdict
+ranged f c m n h =
+    let h2 = then-second _ _ h in
+    let h3 = then-second _ _ h2 in
+    let h4 = then-second _ _ h3 in
+    let rf = inside 1 256 f (passed _ 3 _ (then-first _ _ h)) in
+    let rc = inside 1 128 c (passed _ 4 _ (then-first _ _ h2)) in
+    let rm = inside 1 64 m (passed _ 5 _ (then-first _ _ h3)) in
+    let odd : m % 2 ≡ 1 → ⊥ = eqb-false _ _ (passed _ 6 _ (then-first _ _ h4)) in
+    record {
+      f-low = rf .0;
+      f-high = rf .1;
+      c-low = rc .0;
+      c-high = rc .1;
+      m-low = rm .0;
+      m-high = rm .1;
+      even = omega (arith, odd);
+      n-high = ltb-false _ _ (passed _ 7 _ (then-second _ _ h4));
+    }
+
+pub joins : (f i v w : ℕ) → netVerdict f i v w ≡ Done → Joins f v w
+unfolding netVerdict
+joins f i v w h =
+    let h2 = then-second _ _ h in
+    record {
+      first-in = leb-false _ _ (passed _ 9 _ (then-first _ _ h));
+      second-in = leb-false _ _ (passed _ 9 _ (then-first _ _ h2));
+      apart = eqb-false _ _ (passed _ 10 _ (then-second _ _ h2));
+    }
+
+pub all-join : (f : ℕ) (first second : ℕ → ℕ) (n : ℕ) → netsVerdict f first second n ≡ Done → (i : ℕ) → i < n → Joins f (first i) (second i)
+unfolding netsVerdict
+all-join f first second n h i l = joins f i (first i) (second i) (first-done (λ k. netVerdict f k (first k) (second k)) n h i l)
+
+module _ (job : List ℕ) where
+  pub board-done : jobVerdict job ≡ Done → boardOf job ≡ numbersIn job
+  unfolding boardOf
+  board-done h = rw h
+
+  pub board-refused : (r : Refusal) → jobVerdict job ≡ Refused r → boardOf job ≡ noBoard
+  unfolding boardOf
+  board-refused r h = rw h
+
+  module _ (done : jobVerdict job ≡ Done) where
+    pub head : netsAt ≤ length job
+    unfolding jobVerdict
+    head = ltb-false _ _ (passed _ 1 _ (then-first _ _ done))
+
+    pub three : word job 0 ≡ 3
+    unfolding jobVerdict
+    three = eqb-true _ _ (not-false _ (passed _ 2 _ (then-first _ _ (then-second _ _ done))))
+
+    pub passes : Passed job (numbersIn job)
+    unfolding jobVerdict
+    passes =
+        let h3 = then-second _ _ (then-second _ _ done) in
+        let h4 = then-second _ _ h3 in
+        let h5 = then-second _ _ h4 in
+        let cut : jobLength (nIn job) ≤ length job = ltb-false _ _ (passed _ 1 _ (then-first _ _ h4)) in
+        let more : length job ≤ jobLength (nIn job) = ltb-false _ _ (passed _ 8 _ (then-first _ _ h5)) in
+        record {
+          f = refl;
+          c = refl;
+          m = refl;
+          n = refl;
+          start = refl;
+          ranged = ranged _ _ _ _ (then-first _ _ h3);
+          long = omega arith;
+          nets = all-join _ _ _ _ (then-second _ _ h5);
+        }

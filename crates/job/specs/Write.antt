@@ -1,0 +1,29 @@
+-- The job writer: f, c, m, n and a list of FPGA numbers, two for each net, to a job in lent room.
+use mathlib.Core.List.{List, _∷_}
+use Prim.Native.Nat.{ℕ, _+_, _*_}
+use lib.Dec.{ltb}
+use lib.ListN.{length, getD, take}
+use Rattle.words.specs.declared.Verdict.{Verdict}
+use Rattle.words.specs.Verdict.{refuseIf, _then_, nowhere}
+use Rattle.words.specs.Number.{bytes}
+use Rattle.job.specs.Job.{jobLength}
+use Rattle.job.specs.Check.{rangesVerdict, netsVerdict}
+
+-- the two FPGAs of net i in such a list
+abbrev pub firstOf : List ℕ → ℕ → ℕ
+firstOf ends i = getD ends (2 * i) 0
+
+abbrev pub secondOf : List ℕ → ℕ → ℕ
+secondOf ends i = getD ends (2 * i + 1) 0
+
+-- refusals 3 to 7; 11 for too few numbers or too little room; then 9 and 10 by net
+unfoldable pub writeVerdict : ℕ → ℕ → ℕ → ℕ → List ℕ → ℕ → Verdict
+writeVerdict f c m n ends room =
+    rangesVerdict f c m n then
+    refuseIf (ltb (length ends) (2 * n)) 11 nowhere then
+    refuseIf (ltb room (jobLength n)) 11 nowhere then
+    netsVerdict f (firstOf ends) (secondOf ends) n
+
+-- the job that is written
+unfoldable pub jobOf : ℕ → ℕ → ℕ → ℕ → List ℕ → List ℕ
+jobOf f c m n ends = bytes (3 ∷ f ∷ c ∷ m ∷ n ∷ take (2 * n) ends)

@@ -1,0 +1,3 @@
+-- The order of refusals, and numbers of two bytes.
+pub mod Order
+pub mod Bytes

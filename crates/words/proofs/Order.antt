@@ -1,0 +1,64 @@
+-- The first refusal in a fixed order.
+-- Assumes nothing.
+use mathlib.Core.Path.{_≡_, refl, ap, sym, _∙_}
+use mathlib.Core.Bool.{Bool, true, false}
+use mathlib.Core.Logic.{_⊎_, ⊎-elim}
+use Prim.Native.Nat.{ℕ, zero, suc, _+_, _≤_, _<_}
+use native.Mathlib.Nat.{eq-or-lt-of-le, le-of-suc-le-suc}
+use native.Mathlib.Numerals.{add-one}
+use native.Mathlib.Omega.{arith}
+use Rattle.words.specs.declared.Place.{Place}
+use Rattle.words.specs.declared.Refusal.{Refusal}
+use Rattle.words.specs.declared.Verdict.{Verdict}
+use Rattle.words.specs.declared.Verdict.the-variants.{Done, Refused}
+use Rattle.words.specs.Verdict.{refuseIf, _then_, firstRefusal}
+
+-- ---- two verdicts, one after the other
+
+pub then-first : (v w : Verdict) → (v then w) ≡ Done → v ≡ Done
+unfolding _then_
+then-first Done w h = refl
+then-first (Refused r) w h = h
+
+pub then-second : (v w : Verdict) → (v then w) ≡ Done → w ≡ Done
+unfolding _then_
+then-second Done w h = h
+then-second (Refused r) w h = cc
+
+pub then-done : (v w : Verdict) → v ≡ Done → w ≡ Done → (v then w) ≡ Done
+unfolding _then_
+then-done v w p q = rw (p, q)
+
+-- a test that refuses nothing was false
+pub passed : (b : Bool) (k : ℕ) (place : Place) → refuseIf b k place ≡ Done → b ≡ false
+unfolding refuseIf
+passed true k place h = cc
+passed false k place h = refl
+
+-- ---- many verdicts, in order
+
+module _ (g : ℕ → Verdict) where
+  -- after i that are done, the next one counts
+  pub first-next : (i : ℕ) → firstRefusal g i ≡ Done → firstRefusal g (i + 1) ≡ g i
+  unfolding firstRefusal _then_
+  first-next i p = rw (add-one, p)
+
+  pub first-stays : (i n : ℕ) (r : Refusal) → firstRefusal g i ≡ Refused r → i ≤ n → firstRefusal g n ≡ Refused r
+  unfolding firstRefusal _then_
+  first-stays i zero r p h = let e : i ≡ 0 = omega arith in rw e at p
+  first-stays i (suc n) r p h =
+      ⊎-elim (λ e. rw e at p) (λ l. rw (first-stays i n r p (le-of-suc-le-suc l))) (eq-or-lt-of-le h)
+
+  pub first-stops : (i n : ℕ) (r : Refusal) → firstRefusal g i ≡ Done → g i ≡ Refused r → i < n → firstRefusal g n ≡ Refused r
+  first-stops i n r p q h = first-stays (i + 1) n r (first-next i p ∙ q) (omega arith)
+
+  pub first-done : (n : ℕ) → firstRefusal g n ≡ Done → (i : ℕ) → i < n → g i ≡ Done
+  unfolding firstRefusal
+  first-done zero p i h = absurd (omega arith)
+  first-done (suc n) p i h =
+      ⊎-elim (λ e. rw e (then-second (firstRefusal g n) (g n) p)) (λ l. first-done n (then-first (firstRefusal g n) (g n) p) i l) (eq-or-lt-of-le (le-of-suc-le-suc h))
+
+  pub first-all : (n : ℕ) → ((i : ℕ) → i < n → g i ≡ Done) → firstRefusal g n ≡ Done
+  unfolding firstRefusal
+  first-all zero h = refl
+  first-all (suc n) h = then-done (firstRefusal g n) (g n) (first-all n (λ i l. h i (omega arith))) (h n (omega arith))

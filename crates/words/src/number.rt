@@ -1,0 +1,34 @@
+// A number of two bytes, high byte first: read and written here and nowhere else.
+ghost use mathlib.Core.Path.{_≡_};
+ghost use Prim.Native.Nat.{_+_, _<_};
+ghost use lib.ListN.{length};
+ghost use Rattle.words.specs.Number.{word, putWord};
+
+pub fn wide(x: u16) -> usize
+    ensures { λ r. ⌜ (r ≡ x) × (r < 65536) ⌝ }
+{
+    x as usize
+}
+
+fn low(b: u8) -> u16
+    ensures { λ r. ⌜ (r ≡ b) × (r < 256) ⌝ }
+{
+    b as u16
+}
+
+// The number at byte i.
+pub fn read(s: &[u8], i: usize) -> u16
+    requires { ⌜ i + 1 < length (now s) ⌝ }
+    ensures { λ r. ⌜ r ≡ word (now (s .entry)) i ⌝ }
+{
+    256 * low(s[i]) + low(s[i + 1])
+}
+
+// Writes the number to byte i and the next.
+pub fn write(room: &mut [u8], i: usize, x: u16)
+    requires { ⌜ i + 1 < length (now room) ⌝ }
+    ensures { λ r. ⌜ now (room .exit) ≡ putWord (now (room .entry)) i x ⌝ }
+{
+    room[i] = (x / 256) as u8;
+    room[i + 1] = (x % 256) as u8;
+}
