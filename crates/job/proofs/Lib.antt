@@ -2,3 +2,6 @@
 pub mod Nets
 pub mod Refusals
 pub mod Passing
+pub mod Reading
+pub mod Writing
+pub mod RoundTrip

@@ -3,7 +3,7 @@
 use mathlib.Core.Path.{_≡_, refl, sym, _∙_, ap}
 use mathlib.Core.Bool.{Bool, true, false, not, _||_, true≢false}
 use mathlib.Core.List.{List}
-use Prim.Native.Nat.{ℕ, _%_, _≤_, _<_}
+use Prim.Native.Nat.{ℕ, _+_, _*_, _%_, _≤_, _<_}
 use native.Mathlib.Omega.{arith}
 use lib.Dec.{ltb, leb, eqb}
 use lib.ListN.{length}
@@ -15,7 +15,7 @@ use Rattle.words.specs.Verdict.{firstRefusal}
 use Rattle.words.specs.Number.{word}
 use Rattle.words.proofs.Order.{then-first, then-second, passed, first-done}
 use Rattle.job.specs.Job.{netsAt, jobLength, fIn, cIn, mIn, nIn, firstIn, secondIn}
-use Rattle.job.specs.Check.{outside, rangesVerdict, netVerdict, netsVerdict, jobVerdict, numbersIn, noBoard, boardOf, Ranged, Joins, Passed}
+use Rattle.job.specs.Check.{outside, rangesVerdict, netVerdict, netsVerdict, jobVerdict, numbersIn, noBoard, boardBy, boardOf, Ranged, Joins, Passed}
 
 or-false : (a b : Bool) → (a || b) ≡ false → (a ≡ false) × (b ≡ false)
 or-false true b h = absurd (true≢false h)
@@ -78,11 +78,18 @@ module _ (job : List ℕ) where
     unfolding jobVerdict
     three = eqb-true _ _ (not-false _ (passed _ 2 _ (then-first _ _ (then-second _ _ done))))
 
+    pub its-ranges : rangesVerdict (fIn job) (cIn job) (mIn job) (nIn job) ≡ Done
+    unfolding jobVerdict
+    its-ranges = then-first _ _ (then-second _ _ (then-second _ _ done))
+
+    pub its-nets : netsVerdict (fIn job) (firstIn job) (secondIn job) (nIn job) ≡ Done
+    unfolding jobVerdict
+    its-nets = then-second _ _ (then-second _ _ (then-second _ _ (then-second _ _ (then-second _ _ done))))
+
     pub passes : Passed job (numbersIn job)
     unfolding jobVerdict
     passes =
-        let h3 = then-second _ _ (then-second _ _ done) in
-        let h4 = then-second _ _ h3 in
+        let h4 = then-second _ _ (then-second _ _ (then-second _ _ done)) in
         let h5 = then-second _ _ h4 in
         let cut : jobLength (nIn job) ≤ length job = ltb-false _ _ (passed _ 1 _ (then-first _ _ h4)) in
         let more : length job ≤ jobLength (nIn job) = ltb-false _ _ (passed _ 8 _ (then-first _ _ h5)) in
@@ -92,7 +99,20 @@ module _ (job : List ℕ) where
           m = refl;
           n = refl;
           start = refl;
-          ranged = ranged _ _ _ _ (then-first _ _ h3);
+          ranged = ranged _ _ _ _ its-ranges;
           long = omega arith;
-          nets = all-join _ _ _ _ (then-second _ _ h5);
+          nets = all-join _ _ _ _ its-nets;
         }
+
+    -- the nets go to the job's end
+    pub section-end : boardOf job .start + 4 * boardOf job .n ≡ length job
+    section-end = rw (board-done done) (sym (passes .long))
+
+-- the nets start inside the job, be it refused or not
+pub start-inside : (job : List ℕ) → boardOf job .start ≤ length job
+unfolding boardOf
+start-inside job = go (jobVerdict job) refl
+  where
+    go : (v : Verdict) → jobVerdict job ≡ v → boardBy v job .start ≤ length job
+    go Done h = head job h
+    go (Refused r) h = omega arith

@@ -1,7 +1,8 @@
 -- The job file: count 3, then f, c, m; count n, then n pairs of FPGA numbers. All numbers are two bytes.
 use mathlib.Core.List.{List}
 use Prim.Native.Nat.{ℕ, _+_, _*_}
-use Rattle.words.specs.Number.{word}
+use lib.ListN.{drop}
+use Rattle.words.specs.Number.{word, numbers}
 
 -- the byte of each number, and of the first net
 abbrev pub fAt : ℕ
@@ -42,3 +43,7 @@ firstIn job i = word job (netsAt + 4 * i)
 
 abbrev pub secondIn : List ℕ → ℕ → ℕ
 secondIn job i = word job (netsAt + 2 + 4 * i)
+
+-- all FPGA numbers of its nets, two for each net
+abbrev pub netsIn : List ℕ → List ℕ
+netsIn job = numbers (drop netsAt job)

@@ -1,13 +1,15 @@
 -- The job writer: f, c, m, n and a list of FPGA numbers, two for each net, to a job in lent room.
+use mathlib.Core.Path.{_≡_}
 use mathlib.Core.List.{List, _∷_}
 use Prim.Native.Nat.{ℕ, _+_, _*_}
 use lib.Dec.{ltb}
 use lib.ListN.{length, getD, take}
 use Rattle.words.specs.declared.Verdict.{Verdict}
+use Rattle.words.specs.declared.Verdict.the-variants.{Done}
 use Rattle.words.specs.Verdict.{refuseIf, _then_, nowhere}
 use Rattle.words.specs.Number.{bytes}
-use Rattle.job.specs.Job.{jobLength}
-use Rattle.job.specs.Check.{rangesVerdict, netsVerdict}
+use Rattle.job.specs.Job.{jobLength, fIn, cIn, mIn, nIn, netsIn}
+use Rattle.job.specs.Check.{rangesVerdict, netsVerdict, jobVerdict}
 
 -- the two FPGAs of net i in such a list
 abbrev pub firstOf : List ℕ → ℕ → ℕ
@@ -27,3 +29,12 @@ writeVerdict f c m n ends room =
 -- the job that is written
 unfoldable pub jobOf : ℕ → ℕ → ℕ → ℕ → List ℕ → List ℕ
 jobOf f c m n ends = bytes (3 ∷ f ∷ c ∷ m ∷ n ∷ take (2 * n) ends)
+
+-- what a job file means: it passes the check, these are its numbers, and these the FPGAs of its nets
+pub record Means (job : List ℕ) (f c m n : ℕ) (ends : List ℕ) : Type 0 where
+  pub passes : jobVerdict job ≡ Done
+  pub same-f : fIn job ≡ f
+  pub same-c : cIn job ≡ c
+  pub same-m : mIn job ≡ m
+  pub same-n : nIn job ≡ n
+  pub same-nets : netsIn job ≡ ends

@@ -5,7 +5,12 @@ ghost use lib.ListN.{length};
 ghost use Rattle.job.specs.Job.{netsAt, jobLength, firstIn, secondIn};
 ghost use Rattle.job.specs.Check.{outside, rangesVerdict, netVerdict, netsVerdict, jobVerdict, numbersIn, checkedOf};
 use crate::Board;
+use crate::C_AT;
 use crate::Checked;
+use crate::F_AT;
+use crate::M_AT;
+use crate::N_AT;
+use crate::NETS_AT;
 use crate::read::first_end;
 use crate::read::second_end;
 use words::Net;
@@ -15,17 +20,6 @@ use words::number::read;
 use words::number::wide;
 use words::refuse;
 
-// The bytes of the board's numbers, and of the first net.
-const F_AT: usize = 2;
-
-const C_AT: usize = 4;
-
-const M_AT: usize = 6;
-
-const N_AT: usize = 8;
-
-const NETS_AT: usize = 10;
-
 fn outside(smallest: usize, largest: usize, x: usize) -> bool
     ensures { λ r. ⌜ r ≡ outside smallest largest x ⌝ }
 {
@@ -33,7 +27,7 @@ fn outside(smallest: usize, largest: usize, x: usize) -> bool
 }
 
 // Refusals 3 to 7, for the job and for its writer.
-pub fn check_ranges(f: usize, c: usize, m: usize, n: usize) -> Verdict
+pub(crate) fn check_ranges(f: usize, c: usize, m: usize, n: usize) -> Verdict
     ensures { λ r. ⌜ r ≡ rangesVerdict f c m n ⌝ }
 {
     if outside(1, 256, f) {
@@ -55,7 +49,7 @@ pub fn check_ranges(f: usize, c: usize, m: usize, n: usize) -> Verdict
 }
 
 // Refusals 9 and 10, for net i between FPGAs v and w.
-pub fn check_net(f: usize, i: u16, v: usize, w: usize) -> Verdict
+pub(crate) fn check_net(f: usize, i: u16, v: usize, w: usize) -> Verdict
     ensures { λ r. ⌜ r ≡ netVerdict f i v w ⌝ }
 {
     if f <= v {
@@ -102,7 +96,7 @@ fn numbers_in(job: &[u8]) -> Board
     }
 }
 
-pub fn job_verdict(job: &[u8]) -> Verdict
+fn job_verdict(job: &[u8]) -> Verdict
     ensures { λ r. ⌜ r ≡ jobVerdict (now (job .entry)) ⌝ }
 {
     if job.len() < NETS_AT {

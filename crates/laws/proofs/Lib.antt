@@ -5,3 +5,5 @@ pub mod Remainder
 pub mod Lowest
 pub mod Test
 pub mod Part
+pub mod Cases
+pub mod Matching

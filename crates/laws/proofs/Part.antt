@@ -56,6 +56,16 @@ kept-same s at n = record { long = refl; before = refl; after = refl }
 pub kept-then : {s₀ s s′ : List ℕ} {at n : ℕ} → Kept s₀ s at n → Kept s s′ at n → Kept s₀ s′ at n
 kept-then a b = record { long = b .long ∙ a .long; before = b .before ∙ a .before; after = b .after ∙ a .after }
 
+-- what stays outside a part stays outside a wider one
+pub kept-wider : (s₀ s : List ℕ) (at n : ℕ) → Kept s₀ s at n → (a m : ℕ) → a ≤ at → at + n ≤ a + m → Kept s₀ s a m
+kept-wider s₀ s at n k a m lo hi =
+    let e : at + n + (a + m - (at + n)) ≡ a + m = omega arith in
+    record {
+      long = k .long;
+      before = sym (take-take a at s lo) ∙ ap (take a) (k .before) ∙ take-take a at s₀ lo;
+      after = simp (drop-drop, e) at (ap (drop (a + m - (at + n))) (k .after));
+    }
+
 -- a part that ends before the change, and one that starts behind it
 module _ (s₀ s : List ℕ) (at n : ℕ) (k : Kept s₀ s at n) (a m : ℕ) where
   pub kept-below : a + m ≤ at → at ≤ length s₀ → part s a m ≡ part s₀ a m

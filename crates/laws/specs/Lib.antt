@@ -3,3 +3,4 @@ pub mod Sum
 pub mod Lowest
 pub mod Test
 pub mod Part
+pub mod Matching

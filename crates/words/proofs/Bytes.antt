@@ -1,12 +1,15 @@
 -- Numbers and their bytes: each list of numbers has one list of bytes, and each list of bytes of even length comes of one.
 -- Assumes nothing.
 use mathlib.Core.Path.{_≡_, refl, ap, sym, _∙_}
-use mathlib.Core.List.{List, [], _∷_, _++_, append-assoc}
-use Prim.Native.Nat.{ℕ, zero, suc, _+_, _*_, _/_, _%_, _≤_, _<_}
+use mathlib.Core.List.{List, [], _∷_, _++_, append-assoc, append-nil}
+use Prim.Native.Nat.{ℕ, zero, suc, _+_, _-_, _*_, _/_, _%_, _≤_, _<_}
+use native.Mathlib.Numerals.{add-one}
 use native.Mathlib.Omega.{arith}
-use lib.ListN.{length, getD, take, drop, set, length-append}
-use lib.Seq.{drop-cons, set-at, append-snoc}
-use Rattle.words.specs.Number.{word, bytes, putWord, numbers}
+use lib.ListN.{length, getD, take, drop, set, length-append, length-drop, drop-of-length-le}
+use lib.Seq.{drop-cons, set-at, append-snoc, take-at, drop-at, drop-drop, take-suc, take-all, getD-drop, length-take-le}
+use Rattle.laws.specs.Part.{put}
+use Rattle.words.specs.Lent.{onto}
+use Rattle.words.specs.Number.{word, bytes, putWord, numbers, AreBytes}
 
 pub length-bytes : (xs : List ℕ) → length (bytes xs) ≡ 2 * length xs
 length-bytes [] = refl
@@ -24,7 +27,7 @@ numbers-bytes (x ∷ xs) =
     rw (e, numbers-bytes xs)
 
 -- every list of bytes of even length is what its numbers are written as
-pub bytes-numbers : (s : List ℕ) → length s % 2 ≡ 0 → ((i : ℕ) → i < length s → getD s i 0 < 256) → bytes (numbers s) ≡ s
+pub bytes-numbers : (s : List ℕ) → length s % 2 ≡ 0 → AreBytes s → bytes (numbers s) ≡ s
 bytes-numbers [] even small = refl
 bytes-numbers (h ∷ []) even small = absurd (omega arith)
 bytes-numbers (h ∷ l ∷ s) even small =
@@ -43,6 +46,26 @@ word-bytes (x ∷ xs) (suc k) =
     let b : 2 * suc k + 1 ≡ suc (suc (2 * k + 1)) = omega arith in
     rw (b, a) (word-bytes xs k)
 
+-- so the k-th number of a list of bytes is the one at byte 2 k
+pub number-at : (s : List ℕ) → length s % 2 ≡ 0 → AreBytes s → (k : ℕ) → getD (numbers s) k 0 ≡ word s (2 * k)
+number-at s even small k = sym (word-bytes (numbers s) k) ∙ ap (λ (t : List ℕ). word t (2 * k)) (bytes-numbers s even small)
+
+pub length-numbers : (s : List ℕ) → length (numbers s) ≡ length s / 2
+length-numbers [] = refl
+length-numbers (h ∷ []) = refl
+length-numbers (h ∷ l ∷ s) = omega (arith, length-numbers s)
+
+-- the first number, and those behind it
+pub numbers-first : (s : List ℕ) → 1 < length s → numbers s ≡ word s 0 ∷ numbers (drop 2 s)
+unfolding word
+numbers-first [] l = absurd (omega arith)
+numbers-first (h ∷ []) l = absurd (omega arith)
+numbers-first (h ∷ b ∷ s) l = refl
+
+pub word-drop : (k : ℕ) (s : List ℕ) (i : ℕ) → word (drop k s) i ≡ word s (k + i)
+unfolding word
+word-drop k s i = rw (getD-drop k s i 0, getD-drop k s (i + 1) 0) (ap (λ (j : ℕ). 256 * getD s (k + i) 0 + getD s j 0) (omega arith))
+
 -- a number written over two bytes that stand behind p
 put-at : (p t : List ℕ) (a b x n : ℕ) → length p ≡ n → putWord (p ++ (a ∷ b ∷ t)) n x ≡ p ++ (x / 256 ∷ x % 256 ∷ t)
 put-at p t a b x n e =
@@ -52,10 +75,36 @@ put-at p t a b x n e =
     ∙ append-snoc p (x / 256) (x % 256 ∷ t)
 
 -- one more number is written behind those that stand at the front of a room
-pub put-next : (xs r : List ℕ) (x k : ℕ) → length xs ≡ k → 2 * k + 1 < length r
-    → putWord (bytes xs ++ drop (2 * k) r) (2 * k) x ≡ bytes (xs ++ (x ∷ [])) ++ drop (2 * (k + 1)) r
+pub put-next : (xs r : List ℕ) (x k : ℕ) → length xs ≡ k → 2 * k + 1 < length r → putWord (onto (bytes xs) r) (2 * k) x ≡ onto (bytes (xs ++ (x ∷ []))) r
 put-next xs r x k e h =
-    let d : 2 * (k + 1) ≡ suc (suc (2 * k)) = omega arith in
-    ap (λ (l : List ℕ). putWord (bytes xs ++ l) (2 * k) x) (drop-cons r (2 * k) 0 (omega arith) ∙ ap (λ (l : List ℕ). getD r (2 * k) 0 ∷ l) (drop-cons r (suc (2 * k)) 0 (omega arith)))
-    ∙ put-at (bytes xs) _ _ _ x (2 * k) (omega (arith, length-bytes xs))
-    ∙ rw (d, bytes-append, append-assoc)
+    let l : length (bytes xs) ≡ 2 * k = omega (arith, length-bytes xs) in
+    let m : length (bytes xs ++ bytes (x ∷ [])) ≡ suc (suc (2 * k)) = simp length-append (omega arith) in
+    ap (λ (t : List ℕ). putWord (bytes xs ++ t) (2 * k) x)
+    (ap (λ (j : ℕ). drop j r) l ∙ drop-cons r (2 * k) 0 (omega arith) ∙ ap (λ (t : List ℕ). getD r (2 * k) 0 ∷ t) (drop-cons r (suc (2 * k)) 0 (omega arith)))
+    ∙ put-at (bytes xs) _ _ _ x (2 * k) l
+    ∙ rw (bytes-append, m, append-assoc)
+
+-- what is written behind what stands there
+pub onto-onto : (xs ys r : List ℕ) (k : ℕ) → length xs ≡ k → take k (onto xs r) ++ onto ys (drop k (onto xs r)) ≡ onto (xs ++ ys) r
+onto-onto xs ys r k e =
+    rw (take-at xs (drop (length xs) r) k e, drop-at xs (drop (length xs) r) k e, drop-drop, length-append, append-assoc)
+
+pub length-onto : (xs r : List ℕ) → length xs ≤ length r → length (onto xs r) ≡ length r
+length-onto xs r h = simp (length-append, length-drop) (omega arith)
+
+-- the same where the rest of the room, from k on, was lent and has come back
+pub onto-behind : (xs ys r room : List ℕ) (k : ℕ) → length xs ≡ k → k ≤ length r → room ≡ onto xs r
+    → put room k (length room - k) (onto ys (take (length room - k) (drop k room))) ≡ onto (xs ++ ys) r
+onto-behind xs ys r room k e h q =
+    let all : take (length room - k) (drop k room) ≡ drop k room = take-all (length room - k) (drop k room) (simp length-drop (omega arith)) in
+    let none : drop (length room - k) (drop k room) ≡ [] = drop-of-length-le (drop k room) {i = length room - k} (simp length-drop (omega arith)) in
+    rw (all, none, append-nil) (ap (λ (t : List ℕ). take k t ++ onto ys (drop k t)) q ∙ onto-onto xs ys r k e)
+
+-- one more of a list of numbers
+pub write-next : (xs r room : List ℕ) (i : ℕ) → i < length xs → 2 * length xs ≤ length r → room ≡ onto (bytes (take i xs)) r
+    → putWord room (2 * i) (getD xs i 0) ≡ onto (bytes (take (i + 1) xs)) r
+write-next xs r room i l h e =
+    let more : take i xs ++ (getD xs i 0 ∷ []) ≡ take (i + 1) xs = rw (add-one, take-suc xs i 0) in
+    ap (λ (t : List ℕ). putWord t (2 * i) (getD xs i 0)) e
+    ∙ put-next (take i xs) r (getD xs i 0) i (length-take-le i xs (omega arith)) (omega arith)
+    ∙ ap (λ (t : List ℕ). onto (bytes t) r) more

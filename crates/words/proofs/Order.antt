@@ -62,3 +62,8 @@ module _ (g : ℕ → Verdict) where
   unfolding firstRefusal
   first-all zero h = refl
   first-all (suc n) h = then-done (firstRefusal g n) (g n) (first-all n (λ i l. h i (omega arith))) (h n (omega arith))
+
+pub first-same : (g h : ℕ → Verdict) (n : ℕ) → ((i : ℕ) → i < n → g i ≡ h i) → firstRefusal g n ≡ firstRefusal h n
+unfolding firstRefusal
+first-same g h zero e = refl
+first-same g h (suc n) e = rw (first-same g h n (λ i l. e i (omega arith)), e n (omega arith))

@@ -1,7 +1,7 @@
 -- Numbers of two bytes, high byte first.
 use mathlib.Core.List.{List, [], _∷_}
-use Prim.Native.Nat.{ℕ, _+_, _*_, _/_, _%_}
-use lib.ListN.{getD, set}
+use Prim.Native.Nat.{ℕ, _+_, _*_, _/_, _%_, _<_}
+use lib.ListN.{length, getD, set}
 
 -- the number at byte i
 unfoldable pub word : List ℕ → ℕ → ℕ
@@ -21,3 +21,7 @@ abbrev pub numbers : List ℕ → List ℕ
 numbers [] = []
 numbers (h ∷ []) = []
 numbers (h ∷ l ∷ s) = (256 * h + l) ∷ numbers s
+
+-- every number of the list is a byte's
+abbrev pub AreBytes : List ℕ → Type 0
+AreBytes s = (i : ℕ) → i < length s → getD s i 0 < 256

@@ -1,8 +1,9 @@
 // A number of two bytes, high byte first: read and written here and nowhere else.
 ghost use mathlib.Core.Path.{_≡_};
-ghost use Prim.Native.Nat.{_+_, _<_};
+ghost use Prim.Native.Nat.{_+_, _*_, _≤_, _<_};
 ghost use lib.ListN.{length};
-ghost use Rattle.words.specs.Number.{word, putWord};
+ghost use Rattle.words.specs.Number.{word, bytes, putWord};
+ghost use Rattle.words.specs.Lent.{onto};
 
 pub fn wide(x: u16) -> usize
     ensures { λ r. ⌜ (r ≡ x) × (r < 65536) ⌝ }
@@ -31,4 +32,16 @@ pub fn write(room: &mut [u8], i: usize, x: u16)
 {
     room[i] = (x / 256) as u8;
     room[i + 1] = (x % 256) as u8;
+}
+
+// Writes a list of numbers to the front of the room.
+pub fn write_list(room: &mut [u8], xs: &[u16])
+    requires { ⌜ 2 * length (now xs) ≤ length (now room) ⌝ }
+    ensures { λ r. ⌜ now (room .exit) ≡ onto (bytes (now (xs .entry))) (now (room .entry)) ⌝ }
+{
+    let mut i: usize = 0;
+    while i < xs.len() {
+        write(room, 2 * i, xs[i]);
+        i += 1;
+    }
 }

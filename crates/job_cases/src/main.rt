@@ -1,0 +1,178 @@
+// Document 01's cases 1 to 5, 9 and 10 as far as they concern the job file: what stands in stdout is what that page says.
+use job::NetEnds;
+use job::check::check_job;
+use job::read::net_at;
+use job::read::net_section;
+use job::write::write_job;
+use libc::STDOUT_FILENO;
+use words::Crossbar;
+use words::Fpga;
+use words::Net;
+use words::Verdict;
+use words::number::wide;
+
+fn word(text: &[u8]) {
+    io::write_all(STDOUT_FILENO, text);
+}
+
+fn number(n: usize) {
+    io::write_all(STDOUT_FILENO, b" ");
+    io::print_decimal(STDOUT_FILENO, n as u64);
+}
+
+// A verdict as its number, p and q.
+fn show_verdict(v: Verdict) {
+    word(b" verdict");
+    number(wide(words::number_of(v)));
+    number(words::p_of(v));
+    number(words::q_of(v));
+}
+
+fn show_net(ends: NetEnds) {
+    match ends {
+        NetEnds::Ends(v, w) => {
+            word(b" net");
+            number(wide(v.0));
+            number(wide(w.0));
+        }
+        NetEnds::NoNet => word(b" none"),
+    }
+}
+
+// What the check says of a job, what it reads as, its first net and the one at n, and how long its section is.
+fn show(name: &[u8], job: &[u8]) {
+    word(name);
+    let checked = check_job(job);
+    let verdict = checked.verdict;
+    show_verdict(verdict);
+    let b = checked.board;
+    word(b" board");
+    number(b.f);
+    number(b.c);
+    number(b.m);
+    number(b.n);
+    show_net(net_at(job, b, Net(0)));
+    show_net(net_at(job, b, Net((b.n % 65536) as u16)));
+    word(b" section");
+    number(net_section(job).len());
+    word(b"\n");
+}
+
+// The same after a job is written to `room`, with the writer's verdict; a refused job leaves the room as it was.
+fn show_written(name: &[u8], f: u16, c: u16, m: u16, n: u16, ends: &[u16], room: &mut [u8]) {
+    word(b"write");
+    show_verdict(write_job(Fpga(f), Crossbar(c), m, Net(n), ends, room));
+    word(b"; ");
+    show(name, room);
+}
+
+// The first bytes of a job as a job of their own.
+fn show_first(name: &[u8], job: &[u8], length: usize) {
+    if length <= job.len() {
+        show(name, &job[..length]);
+    }
+}
+
+// The second FPGA of each net becomes 1.
+fn second_ends(job: &mut [u8]) {
+    let mut i: usize = 13;
+    while i < job.len() {
+        job[i] = 1;
+        i += 4;
+    }
+}
+
+// The first bytes of a board 2 128 64 with nets 0-1, whose count of nets is written as the two bytes say.
+fn show_long(name: &[u8], high: u8, low: u8, length: usize) {
+    let mut job = [0u8; 20000];
+    job[1] = 3;
+    job[3] = 2;
+    job[5] = 128;
+    job[7] = 64;
+    job[8] = high;
+    job[9] = low;
+    second_ends(&mut job);
+    show_first(name, &job, length);
+}
+
+fn main() {
+    let mut ten = [0u8; 10];
+    show_written(b"case 1", 1, 1, 2, 0, &[0u16; 0], &mut ten);
+    let mut room = [0u8; 26];
+    show_written(
+        b"case 2",
+        3,
+        2,
+        2,
+        4,
+        &[0u16, 1, 1, 2, 2, 0, 0, 1],
+        &mut room,
+    );
+    let mut two = [0u8; 18];
+    show_written(b"case 3, two nets", 2, 1, 2, 2, &[0u16, 1, 0, 1], &mut two);
+    let mut three = [0u8; 22];
+    show_written(
+        b"case 3, three nets",
+        2,
+        1,
+        2,
+        3,
+        &[0u16, 1, 0, 1, 0, 1],
+        &mut three,
+    );
+    show_written(
+        b"case 4, by the writer",
+        3,
+        2,
+        1,
+        3,
+        &[0u16, 1, 1, 2, 2, 0],
+        &mut three,
+    );
+    let triangle = [
+        0u8,
+        3,
+        0,
+        3,
+        0,
+        2,
+        0,
+        1,
+        0,
+        3,
+        0,
+        0,
+        0,
+        1,
+        0,
+        1,
+        0,
+        2,
+        0,
+        2,
+        0,
+        0,
+    ];
+    show(b"case 4", &triangle);
+    show(b"case 5, m 0", &[0u8, 3, 0, 1, 0, 1, 0, 0, 0, 0]);
+    show(b"case 5, m 65", &[0u8, 3, 0, 1, 0, 1, 0, 65, 0, 0]);
+    show(b"case 5, m 64", &[0u8, 3, 0, 1, 0, 1, 0, 64, 0, 0]);
+    show(b"case 5, m 63", &[0u8, 3, 0, 1, 0, 1, 0, 63, 0, 0]);
+    show(
+        b"case 9, f 5",
+        &[0u8, 3, 0, 5, 0, 1, 0, 2, 0, 1, 0, 5, 0, 5],
+    );
+    show(
+        b"case 9, f 6",
+        &[0u8, 3, 0, 6, 0, 1, 0, 2, 0, 1, 0, 5, 0, 5],
+    );
+    show_long(b"case 10, n 4096", 16, 0, 16394);
+    show_long(b"case 10, n 4097", 16, 1, 16398);
+    show_long(b"case 10, n 4097 cut", 16, 1, 10);
+    show_long(b"case 10, one more", 16, 0, 16395);
+    show_long(b"one less", 16, 0, 16393);
+    show(b"nine bytes", &[0u8, 3, 0, 1, 0, 1, 0, 2, 0]);
+    show(b"count 4", &[0u8, 4, 0, 1, 0, 1, 0, 2, 0, 0]);
+    show(b"f 257", &[0u8, 3, 1, 1, 0, 1, 0, 2, 0, 0]);
+    show(b"c 129", &[0u8, 3, 1, 0, 0, 129, 0, 2, 0, 0]);
+}

@@ -1,0 +1,2 @@
+-- What a part that was lent to `fill` leaves.
+pub mod Filling

@@ -1,0 +1,2 @@
+-- The map of the lent scratch.
+pub mod Scratch
