@@ -104,37 +104,34 @@ head-numbers job l =
         numbers-first (drop k job) (simp length-drop (omega arith)) ∙ rw (word-drop, drop-drop, z)
 
 -- A job that passes the check is what the writer writes for what it reads as.
-module _ (job : List ℕ) (small : AreBytes job) (done : jobVerdict job ≡ Done) where
+module _ (job : List ℕ) (done : jobVerdict job ≡ Done) where
   its-length : length job ≡ jobLength (nIn job)
   its-length = passes job done .long
 
   pub nets-length : length (netsIn job) ≡ 2 * nIn job
   nets-length = length-numbers (drop netsAt job) ∙ simp length-drop (omega (arith, its-length))
 
-  pub is-written : job ≡ jobOf (fIn job) (cIn job) (mIn job) (nIn job) (netsIn job)
+  pub is-written : AreBytes job → job ≡ jobOf (fIn job) (cIn job) (mIn job) (nIn job) (netsIn job)
   unfolding jobOf
-  is-written =
+  is-written small =
       sym (bytes-numbers job (omega (arith, its-length)) small)
       ∙ ap bytes (head-numbers job (head job done))
       ∙ rw (three job done, take-all (2 * nIn job) (netsIn job) (omega (arith, nets-length)))
 
   -- a number of the net list is the job's
-  net-number : (k at : ℕ) → at ≡ netsAt + 2 * k → getD (netsIn job) k 0 ≡ word job at
-  net-number k at e =
-      number-at (drop netsAt job) (simp length-drop (omega (arith, its-length)))
-      (λ i l. rw (getD-drop netsAt job i 0) (small (netsAt + i) (omega (arith, simp length-drop at l)))) k
-      ∙ word-drop netsAt job (2 * k)
-      ∙ ap (word job) (sym e)
+  net-number : (k at : ℕ) → k < 2 * nIn job → at ≡ netsAt + 2 * k → getD (netsIn job) k 0 ≡ word job at
+  net-number k at l e =
+      number-at (drop netsAt job) k (simp length-drop (omega (arith, its-length))) ∙ word-drop netsAt job (2 * k) ∙ ap (word job) (sym e)
 
   pub writer-accepts : (room : ℕ) → length job ≤ room → writeVerdict (fIn job) (cIn job) (mIn job) (nIn job) (netsIn job) room ≡ Done
   writer-accepts room h =
       by-ends _ _ _ _ _ room (its-ranges job done) (omega (arith, nets-length)) (omega (arith, its-length))
-      ∙ nets-same (fIn job) _ _ _ _ (nIn job) (λ i l. net-number (2 * i) _ (omega arith)) (λ i l. net-number (2 * i + 1) _ (omega arith))
+      ∙ nets-same (fIn job) _ _ _ _ (nIn job) (λ i l. net-number (2 * i) _ (omega arith) (omega arith)) (λ i l. net-number (2 * i + 1) _ (omega arith) (omega arith))
       ∙ its-nets job done
 
 -- A written file is the only one with its meaning.
 pub only-one : (job : List ℕ) (f c m n : ℕ) (ends : List ℕ) → AreBytes job → Means job f c m n ends → job ≡ jobOf f c m n ends
-only-one job f c m n ends small e = is-written job small (e .passes) ∙ rw (e .same-f, e .same-c, e .same-m, e .same-n, e .same-nets)
+only-one job f c m n ends small e = is-written job (e .passes) small ∙ rw (e .same-f, e .same-c, e .same-m, e .same-n, e .same-nets)
 
 pub same-meaning : (job₁ job₂ : List ℕ) (f c m n : ℕ) (ends : List ℕ) → AreBytes job₁ → AreBytes job₂ → Means job₁ f c m n ends → Means job₂ f c m n ends → job₁ ≡ job₂
 same-meaning job₁ job₂ f c m n ends s₁ s₂ e₁ e₂ = only-one job₁ f c m n ends s₁ e₁ ∙ sym (only-one job₂ f c m n ends s₂ e₂)

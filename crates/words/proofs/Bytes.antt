@@ -46,9 +46,16 @@ word-bytes (x ∷ xs) (suc k) =
     let b : 2 * suc k + 1 ≡ suc (suc (2 * k + 1)) = omega arith in
     rw (b, a) (word-bytes xs k)
 
--- so the k-th number of a list of bytes is the one at byte 2 k
-pub number-at : (s : List ℕ) → length s % 2 ≡ 0 → AreBytes s → (k : ℕ) → getD (numbers s) k 0 ≡ word s (2 * k)
-number-at s even small k = sym (word-bytes (numbers s) k) ∙ ap (λ (t : List ℕ). word t (2 * k)) (bytes-numbers s even small)
+-- the k-th number of a list of bytes is the one at byte 2 k
+pub number-at : (s : List ℕ) (k : ℕ) → 2 * k + 1 < length s → getD (numbers s) k 0 ≡ word s (2 * k)
+unfolding word
+number-at [] k l = absurd (omega arith)
+number-at (h ∷ []) k l = absurd (omega arith)
+number-at (h ∷ b ∷ s) zero l = refl
+number-at (h ∷ b ∷ s) (suc k) l =
+    let e : 2 * suc k ≡ suc (suc (2 * k)) = omega arith in
+    let d : 2 * suc k + 1 ≡ suc (suc (2 * k + 1)) = omega arith in
+    rw (d, e) (number-at s k (omega arith))
 
 pub length-numbers : (s : List ℕ) → length (numbers s) ≡ length s / 2
 length-numbers [] = refl
@@ -84,6 +91,10 @@ put-next xs r x k e h =
     ∙ put-at (bytes xs) _ _ _ x (2 * k) l
     ∙ rw (bytes-append, m, append-assoc)
 
+-- a room that is written whole
+pub onto-whole : (xs r : List ℕ) → length xs ≡ length r → onto xs r ≡ xs
+onto-whole xs r e = rw (drop-of-length-le r {i = length xs} (omega arith), append-nil)
+
 -- what is written behind what stands there
 pub onto-onto : (xs ys r : List ℕ) (k : ℕ) → length xs ≡ k → take k (onto xs r) ++ onto ys (drop k (onto xs r)) ≡ onto (xs ++ ys) r
 onto-onto xs ys r k e =
@@ -108,3 +119,17 @@ write-next xs r room i l h e =
     ap (λ (t : List ℕ). putWord t (2 * i) (getD xs i 0)) e
     ∙ put-next (take i xs) r (getD xs i 0) i (length-take-le i xs (omega arith)) (omega arith)
     ∙ ap (λ (t : List ℕ). onto (bytes t) r) more
+
+-- one more number is read behind those that were
+pub read-next : (s r out : List ℕ) (i : ℕ) → i < length r → 2 * length r ≤ length s → out ≡ onto (take i (numbers s)) r
+    → set out i (word s (2 * i)) ≡ onto (take (i + 1) (numbers s)) r
+read-next s r out i l h e =
+    let many : i < length (numbers s) = omega (arith, length-numbers s) in
+    let long : length (take i (numbers s)) ≡ i = length-take-le i (numbers s) (omega arith) in
+    let more : take i (numbers s) ++ (getD (numbers s) i 0 ∷ []) ≡ take (i + 1) (numbers s) = rw (add-one, take-suc (numbers s) i 0) in
+    let longer : length (take i (numbers s) ++ (word s (2 * i) ∷ [])) ≡ suc i = simp length-append (omega arith) in
+    ap (λ (t : List ℕ). set t i (word s (2 * i))) (e ∙ ap (λ (j : ℕ). take i (numbers s) ++ drop j r) long ∙ ap (λ (t : List ℕ). take i (numbers s) ++ t) (drop-cons r i 0 l))
+    ∙ set-at (take i (numbers s)) _ _ (word s (2 * i)) i long
+    ∙ sym (append-snoc (take i (numbers s)) (word s (2 * i)) (drop (suc i) r))
+    ∙ ap (λ (j : ℕ). (take i (numbers s) ++ (word s (2 * i) ∷ [])) ++ drop j r) (sym longer)
+    ∙ ap (λ (t : List ℕ). onto t r) (ap (λ (x : ℕ). take i (numbers s) ++ (x ∷ [])) (sym (number-at s i (omega arith))) ∙ more)

@@ -1,8 +1,8 @@
 // A number of two bytes, high byte first: read and written here and nowhere else.
 ghost use mathlib.Core.Path.{_≡_};
 ghost use Prim.Native.Nat.{_+_, _*_, _≤_, _<_};
-ghost use lib.ListN.{length};
-ghost use Rattle.words.specs.Number.{word, bytes, putWord};
+ghost use lib.ListN.{length, take};
+ghost use Rattle.words.specs.Number.{word, bytes, numbers, putWord};
 ghost use Rattle.words.specs.Lent.{onto};
 
 pub fn wide(x: u16) -> usize
@@ -42,6 +42,18 @@ pub fn write_list(room: &mut [u8], xs: &[u16])
     let mut i: usize = 0;
     while i < xs.len() {
         write(room, 2 * i, xs[i]);
+        i += 1;
+    }
+}
+
+// Reads as many numbers as `out` has room for from the front of the bytes.
+pub fn read_list(s: &[u8], out: &mut [u16])
+    requires { ⌜ 2 * length (now out) ≤ length (now s) ⌝ }
+    ensures { λ r. ⌜ now (out .exit) ≡ take (length (now (out .entry))) (numbers (now (s .entry))) ⌝ }
+{
+    let mut i: usize = 0;
+    while i < out.len() {
+        out[i] = read(s, 2 * i);
         i += 1;
     }
 }
