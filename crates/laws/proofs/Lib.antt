@@ -5,5 +5,6 @@ pub mod Remainder
 pub mod Lowest
 pub mod Test
 pub mod Part
+pub mod Row
 pub mod Cases
 pub mod Matching

@@ -3,4 +3,5 @@ pub mod Sum
 pub mod Lowest
 pub mod Test
 pub mod Part
+pub mod Row
 pub mod Matching

@@ -1,14 +1,8 @@
--- Items below n in pairs, and labels 0 and 1 that differ in each pair. `at` reads a list as a function of the index.
+-- Items below n in pairs, and labels 0 and 1 that differ in each pair.
 use mathlib.Core.Path.{_≡_}
-use mathlib.Core.List.{List}
 use Prim.Native.Nat.{ℕ, _+_, _<_}
 use lib.Dec.{eqb}
-use lib.ListN.{getD}
 use Rattle.laws.specs.Sum.{when}
-
--- what stands at i
-abbrev pub at : List ℕ → ℕ → ℕ
-at l i = getD l i 0
 
 -- P pairs the items below n: each with another, and that one with it
 pub record Perfect (n : ℕ) (P : ℕ → ℕ) : Type 0 where

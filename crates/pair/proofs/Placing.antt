@@ -7,7 +7,7 @@ use Prim.Native.Nat.{ℕ, _+_, _-_, _≤_, _<_}
 use native.Mathlib.Omega.{arith}
 use lib.ListN.{length, getD, set, take, drop, replicate, length-replicate, getD-replicate, length-set}
 use Rattle.laws.specs.Part.{part, put, Kept}
-use Rattle.laws.specs.Matching.{at}
+use Rattle.laws.specs.Row.{at}
 use Rattle.laws.proofs.Part.{lent, part-long, part-at, part-put, kept-put, kept-same, kept-then, kept-below}
 use Rattle.scratch.proofs.Filling.{part-fill, kept-fill}
 use Rattle.pair.specs.Pair.{fpgaCount, Asked, Pairing}

@@ -8,7 +8,8 @@ use native.Mathlib.Decide.{decLt}
 use native.Mathlib.Omega.{arith}
 use lib.ListN.{length, getD}
 use Rattle.laws.specs.Sum.{sum}
-use Rattle.laws.specs.Matching.{at, is, Alternates}
+use Rattle.laws.specs.Row.{at}
+use Rattle.laws.specs.Matching.{is, Alternates}
 use Rattle.laws.proofs.Sum.{sum-same, sum-one, sum-zero}
 use Rattle.laws.proofs.Cases.{by-same}
 use Rattle.pair.specs.Pair.{fpgaCount, count, Near, Paired}

@@ -9,7 +9,8 @@ use lib.Dec.{ltb, leb}
 use lib.ListN.{length, getD, set, replicate}
 use Rattle.laws.specs.Sum.{sum, when}
 use Rattle.laws.specs.Part.{part, Kept}
-use Rattle.laws.specs.Matching.{at, is}
+use Rattle.laws.specs.Row.{at}
+use Rattle.laws.specs.Matching.{is}
 use Rattle.scratch.specs.Scratch.{region}
 use Rattle.pair.specs.Pair.{fpgaCount, count, Asked}
 

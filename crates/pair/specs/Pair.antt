@@ -7,7 +7,8 @@ use lib.Dec.{eqb}
 use lib.ListN.{length}
 use Rattle.laws.specs.Sum.{sum, when}
 use Rattle.laws.specs.Part.{part, Kept}
-use Rattle.laws.specs.Matching.{at, is, Perfect, Alternates}
+use Rattle.laws.specs.Row.{at}
+use Rattle.laws.specs.Matching.{is, Perfect, Alternates}
 use Rattle.scratch.specs.Scratch.{region}
 
 -- the 256 FPGAs of the largest board, and one more for a dummy net

@@ -5,7 +5,8 @@ use mathlib.Core.List.{List}
 use Prim.Native.Nat.{ℕ, _+_}
 use native.Mathlib.Omega.{arith}
 use Rattle.laws.specs.Part.{part}
-use Rattle.laws.specs.Matching.{at, Alternates}
+use Rattle.laws.specs.Row.{at}
+use Rattle.laws.specs.Matching.{Alternates}
 use Rattle.laws.proofs.Part.{part-at, part-front, kept-then, kept-below, kept-at-below}
 use Rattle.scratch.specs.Scratch.{endsFrom, matesFrom, labelsFrom}
 use Rattle.pair.specs.Pair.{Asked, Pairing}

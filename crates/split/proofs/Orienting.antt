@@ -7,7 +7,8 @@ use Prim.Native.Nat.{ℕ, _+_, _-_, _<_}
 use native.Mathlib.Omega.{arith}
 use lib.ListN.{getD}
 use Rattle.laws.specs.Part.{part, put, Kept}
-use Rattle.laws.specs.Matching.{at, Perfect, Alternates}
+use Rattle.laws.specs.Row.{at}
+use Rattle.laws.specs.Matching.{Perfect, Alternates}
 use Rattle.laws.proofs.Part.{part-front, part-put, kept-put, kept-then, kept-above, kept-at-below}
 use Rattle.laws.proofs.Cases.{by-same, by-half}
 use Rattle.scratch.specs.Scratch.{region, endsFrom, matesFrom, flipFrom, labelsFrom}

@@ -6,7 +6,8 @@ use Prim.Native.Nat.{ℕ, _+_, _*_, _%_, _≤_, _<_}
 use native.Mathlib.Omega.{arith}
 use lib.ListN.{length, getD}
 use Rattle.laws.specs.Part.{part, Kept}
-use Rattle.laws.specs.Matching.{at, Perfect, Alternates}
+use Rattle.laws.specs.Row.{at}
+use Rattle.laws.specs.Matching.{Perfect, Alternates}
 use Rattle.laws.proofs.Part.{part-at, kept-wider}
 use Rattle.scratch.specs.Scratch.{region, endsFrom, matesFrom, scratchLong}
 use Rattle.pair.specs.Pair.{fpgaCount, Asked}

@@ -6,7 +6,7 @@ use Prim.Native.Nat.{ℕ, _+_, _-_, _≤_, _<_}
 use native.Mathlib.Omega.{arith}
 use lib.ListN.{length, getD, set, take, drop, replicate, getD-replicate}
 use Rattle.laws.specs.Part.{part, put, Kept}
-use Rattle.laws.specs.Matching.{at}
+use Rattle.laws.specs.Row.{at}
 use Rattle.laws.proofs.Part.{part-long, part-at, part-set, kept-set, kept-same, kept-then, kept-below}
 use Rattle.laws.proofs.Cases.{by-same}
 use Rattle.scratch.proofs.Filling.{part-fill, kept-fill}

@@ -7,7 +7,8 @@ use native.Mathlib.Omega.{arith}
 use lib.ListN.{length, set}
 use lib.Seq.{getD-set-same, getD-set-other, lt-length-set}
 use Rattle.laws.specs.Sum.{sum}
-use Rattle.laws.specs.Matching.{at, is}
+use Rattle.laws.specs.Row.{at}
+use Rattle.laws.specs.Matching.{is}
 use Rattle.laws.proofs.Sum.{sum-two}
 use Rattle.laws.proofs.Matching.{is-yes, is-no, is-same}
 use Rattle.walk.specs.Going.{noLabel}

@@ -4,7 +4,8 @@ use mathlib.Core.List.{List}
 use Prim.Native.Nat.{ℕ, _+_, _<_}
 use Rattle.laws.specs.Sum.{sum}
 use Rattle.laws.specs.Part.{part, Kept}
-use Rattle.laws.specs.Matching.{at, is}
+use Rattle.laws.specs.Row.{at}
+use Rattle.laws.specs.Matching.{is}
 use Rattle.walk.specs.Walk.{Matched}
 
 -- what stands for a label that is still to come

@@ -3,7 +3,8 @@ use mathlib.Core.List.{List}
 use Prim.Native.Nat.{ℕ, _+_, _≤_}
 use lib.ListN.{length}
 use Rattle.laws.specs.Part.{part, Kept}
-use Rattle.laws.specs.Matching.{at, Perfect, Alternates}
+use Rattle.laws.specs.Row.{at}
+use Rattle.laws.specs.Matching.{Perfect, Alternates}
 
 -- the pairings stand at p and q, both in front of the place for the labels, x
 pub record Matched (s : List ℕ) (p q x n : ℕ) : Type 0 where

@@ -4,7 +4,8 @@ use Rattle.walk.proofs.visit.Tie as tie
 use borrow.Author.Needs.{needs}
 use Rattle.laws.specs.Sum.{sum}
 use Rattle.laws.specs.Part.{part}
-use Rattle.laws.specs.Matching.{at, is}
+use Rattle.laws.specs.Row.{at}
+use Rattle.laws.specs.Matching.{is}
 use Rattle.walk.specs.Going.{noLabel}
 use Rattle.walk.proofs.Region.{Wending, wend-first, wend-again, wend-round, visit-none}
 

@@ -1,13 +1,10 @@
 use Rattle.words.proofs.Bytes.{read-next, onto-whole, length-numbers}
 use lib.Seq.{length-take-le}
-
-
 use Rattle.words.specs.Number.{numbers}
 use Rattle.words.specs.Lent.{onto}
 use lib.ListN.{length, take, set, length-set}
 use borrow.Author.Needs.{needs}
 use native.Mathlib.Omega.{arith}
-
 use mathlib.Core.Path.{_≡_, refl, ap, _∙_}
 use Prim.Native.Nat.{_≤_, _-_}
 use Rattle.words.proofs.number.read_list.Statement.{statement}
