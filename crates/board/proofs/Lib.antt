@@ -9,3 +9,4 @@ pub mod Halves
 pub mod Rule
 pub mod Case
 pub mod Sound
+pub mod Same

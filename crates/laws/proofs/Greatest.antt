@@ -76,3 +76,8 @@ module _ (f g : ℕ → ℕ) (A B n : ℕ) (la : A < n) (lb : B < n) (other : (x
       dite (ℕ-discrete x A) (λ q. omega (arith, ap g q, least-le f A n la, least-le f B n lb))
       (λ na. dite (ℕ-discrete x B) (λ q. omega (arith, ap g q, least-le f A n la, least-le f B n lb))
       (λ nb. omega (arith, other x l na nb, least-le f x n l))))
+
+pub greatest-same : (f g : ℕ → ℕ) (n : ℕ) → ((k : ℕ) → k < n → f k ≡ g k) → greatest f n ≡ greatest g n
+unfolding greatest
+greatest-same f g zero h = refl
+greatest-same f g (suc n) h = rw (greatest-same f g n (λ k l. h k (omega arith)), h n (omega arith))

@@ -22,7 +22,7 @@ row-at f zero i l = absurd (omega arith)
 row-at f (suc n) i l =
     dite (ℕ-discrete i n) (λ e. rw e (getD-at (row f n) (f n) [] 0 n (length-row f n)))
     (λ ne. let k : i < n = omega arith in
-        List·getD-append (row f n) (f n ∷ []) 0 i (omega (arith, length-row f n)) ∙ row-at f n i k)
+    List·getD-append (row f n) (f n ∷ []) 0 i (omega (arith, length-row f n)) ∙ row-at f n i k)
 
 pub row-same : (f g : ℕ → ℕ) (n : ℕ) → ((i : ℕ) → i < n → f i ≡ g i) → row f n ≡ row g n
 unfolding row

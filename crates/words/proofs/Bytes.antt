@@ -8,6 +8,7 @@ use native.Mathlib.Omega.{arith}
 use lib.ListN.{length, getD, take, drop, set, length-append, length-drop, drop-of-length-le}
 use lib.Seq.{drop-cons, set-at, append-snoc, take-at, drop-at, drop-drop, take-suc, take-all, getD-drop, length-take-le}
 use Rattle.laws.specs.Part.{put}
+use Rattle.laws.specs.Row.{row}
 use Rattle.words.specs.Lent.{onto}
 use Rattle.words.specs.Number.{word, bytes, putWord, numbers, AreBytes}
 
@@ -72,6 +73,16 @@ numbers-first (h ∷ b ∷ s) l = refl
 pub word-drop : (k : ℕ) (s : List ℕ) (i : ℕ) → word (drop k s) i ≡ word s (k + i)
 unfolding word
 word-drop k s i = rw (getD-drop k s i 0, getD-drop k s (i + 1) 0) (ap (λ (j : ℕ). 256 * getD s (k + i) 0 + getD s j 0) (omega arith))
+
+-- the n numbers from byte k on, and those behind them
+pub numbers-row : (s : List ℕ) (k n : ℕ) → k + 2 * n ≤ length s → numbers (drop k s) ≡ row (λ i. word s (k + 2 * i)) n ++ numbers (drop (k + 2 * n) s)
+unfolding row
+numbers-row s k zero l = let z : k + 2 * 0 ≡ k = omega arith in rw z
+numbers-row s k (suc n) l =
+    let z : k + 2 * n + 0 ≡ k + 2 * n = omega arith in
+    let e : k + 2 * n + 2 ≡ k + 2 * suc n = omega arith in
+    numbers-row s k n (omega arith)
+    ∙ rw (numbers-first (drop (k + 2 * n) s) (simp length-drop (omega arith)), word-drop (k + 2 * n) s 0, drop-drop 2 (k + 2 * n) s, z, e, append-assoc)
 
 -- a number written over two bytes that stand behind p
 put-at : (p t : List ℕ) (a b x n : ℕ) → length p ≡ n → putWord (p ++ (a ∷ b ∷ t)) n x ≡ p ++ (x / 256 ∷ x % 256 ∷ t)

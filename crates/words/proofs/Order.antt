@@ -29,11 +29,32 @@ pub then-done : (v w : Verdict) → v ≡ Done → w ≡ Done → (v then w) ≡
 unfolding _then_
 then-done v w p q = rw (p, q)
 
+pub then-assoc : (u v w : Verdict) → ((u then v) then w) ≡ (u then (v then w))
+unfolding _then_
+then-assoc Done v w = refl
+then-assoc (Refused r) v w = refl
+
+pub done-then : (v : Verdict) → (Done then v) ≡ v
+unfolding _then_
+done-then v = refl
+
+pub then-refused : (v w : Verdict) (r : Refusal) → v ≡ Refused r → (v then w) ≡ Refused r
+unfolding _then_
+then-refused v w r e = rw e
+
+pub then-next : (v w : Verdict) → v ≡ Done → (v then w) ≡ w
+unfolding _then_
+then-next v w e = rw e
+
 -- a test that refuses nothing was false
 pub passed : (b : Bool) (k : ℕ) (place : Place) → refuseIf b k place ≡ Done → b ≡ false
 unfolding refuseIf
 passed true k place h = cc
 passed false k place h = refl
+
+pub refuse-not : (b : Bool) (k : ℕ) (place : Place) → b ≡ false → refuseIf b k place ≡ Done
+unfolding refuseIf
+refuse-not b k place h = rw h
 
 -- ---- many verdicts, in order
 
@@ -67,3 +88,11 @@ pub first-same : (g h : ℕ → Verdict) (n : ℕ) → ((i : ℕ) → i < n → 
 unfolding firstRefusal
 first-same g h zero e = refl
 first-same g h (suc n) e = rw (first-same g h n (λ i l. e i (omega arith)), e n (omega arith))
+
+-- one test for each number: done exactly if all are false
+module _ (t : ℕ → Bool) (k : ℕ) (place : ℕ → Place) (n : ℕ) where
+  pub none-refused : firstRefusal (λ i. refuseIf (t i) k (place i)) n ≡ Done → (i : ℕ) → i < n → t i ≡ false
+  none-refused h i l = passed (t i) k (place i) (first-done (λ i. refuseIf (t i) k (place i)) n h i l)
+
+  pub refuse-none : ((i : ℕ) → i < n → t i ≡ false) → firstRefusal (λ i. refuseIf (t i) k (place i)) n ≡ Done
+  refuse-none h = first-all (λ i. refuseIf (t i) k (place i)) n (λ i l. refuse-not (t i) k (place i) (h i l))

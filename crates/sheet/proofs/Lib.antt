@@ -1,0 +1,5 @@
+-- The laws of the sheet.
+pub mod Counts
+pub mod Parts
+pub mod Saying
+pub mod Agree

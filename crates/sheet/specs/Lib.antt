@@ -1,0 +1,3 @@
+-- The sheet: what it holds, what is written, and what the audit says.
+pub mod Sheet
+pub mod Audit

@@ -1,0 +1,5 @@
+// The sheet: writer, reader, audit, evidence.
+pub mod head;
+
+// The byte of the first crossbar number.
+pub const NUMBERS_AT: usize = 10;
