@@ -104,6 +104,9 @@ module _ (job : List ℕ) where
           nets = all-join _ _ _ _ its-nets;
         }
 
+    pub checked-passes : Passed job (boardOf job)
+    checked-passes = rw (board-done done) passes
+
     -- the nets go to the job's end
     pub section-end : boardOf job .start + 4 * boardOf job .n ≡ length job
     section-end = rw (board-done done) (sym (passes .long))

@@ -2,8 +2,9 @@
 -- Assumes nothing.
 use mathlib.Core.Path.{_≡_, refl, ap}
 use mathlib.Core.Logic.{_≢_, dite}
-use Prim.Native.Nat.{ℕ, zero, suc, _+_, _≤_, _<_}
+use Prim.Native.Nat.{ℕ, zero, suc, _+_, _≤_, _<_, min, max}
 use native.Mathlib.Decide.{ℕ-discrete, decLe}
+use native.Mathlib.Numerals.{add-one}
 use native.Mathlib.Omega.{arith}
 use Rattle.laws.specs.Sum.{greatest, least}
 
@@ -47,6 +48,16 @@ module _ (f : ℕ → ℕ) where
       let w = least-is (suc n) (omega arith) in
       dite (decLe (least f (suc n)) (f (suc n))) (λ h. (w .0, omega (arith, w .1), omega (arith, w .2))) (λ h. (suc n, omega arith, omega arith))
 
+  -- one more, as the code has it
+  pub greatest-more : (n : ℕ) → greatest f (n + 1) ≡ max (greatest f n) (f n)
+  unfolding greatest
+  greatest-more n = rw add-one
+
+  pub least-more : (n : ℕ) → 0 < n → least f (n + 1) ≡ min (least f n) (f n)
+  unfolding least
+  least-more zero l = absurd (omega arith)
+  least-more (suc n) l = rw add-one
+
   -- every two are within w of each other if the greatest and the least are
   pub all-near : (w n : ℕ) → greatest f n ≤ least f n + w → (x y : ℕ) → x < n → y < n → f x ≤ f y + w
   all-near w n h x y lx ly = omega (arith, greatest-ge x n lx, least-le y n ly)
@@ -59,6 +70,19 @@ module _ (f : ℕ → ℕ) where
       let g = greatest-is n p in
       let m = least-is n p in
       omega (arith, g .2, m .2, h (g .0) (m .0) (g .1) (m .1)))
+
+-- the greatest and the least of two functions that are the same below n
+module _ (f g : ℕ → ℕ) where
+  pub greatest-same : (n : ℕ) → ((k : ℕ) → k < n → f k ≡ g k) → greatest f n ≡ greatest g n
+  unfolding greatest
+  greatest-same zero h = refl
+  greatest-same (suc n) h = rw (greatest-same n (λ k l. h k (omega arith)), h n (omega arith))
+
+  pub least-same : (n : ℕ) → ((k : ℕ) → k < n → f k ≡ g k) → least f n ≡ least g n
+  unfolding least
+  least-same zero h = refl
+  least-same (suc zero) h = h 0 (omega arith)
+  least-same (suc (suc n)) h = rw (least-same (suc n) (λ k l. h k (omega arith)), h (suc n) (omega arith))
 
 -- f and g differ at A and B only, with the same sum there, and g's two are at most one apart: g stays within the bounds of f
 module _ (f g : ℕ → ℕ) (A B n : ℕ) (la : A < n) (lb : B < n) (other : (x : ℕ) → x < n → x ≢ A → x ≢ B → g x ≡ f x)
@@ -76,8 +100,3 @@ module _ (f g : ℕ → ℕ) (A B n : ℕ) (la : A < n) (lb : B < n) (other : (x
       dite (ℕ-discrete x A) (λ q. omega (arith, ap g q, least-le f A n la, least-le f B n lb))
       (λ na. dite (ℕ-discrete x B) (λ q. omega (arith, ap g q, least-le f A n la, least-le f B n lb))
       (λ nb. omega (arith, other x l na nb, least-le f x n l))))
-
-pub greatest-same : (f g : ℕ → ℕ) (n : ℕ) → ((k : ℕ) → k < n → f k ≡ g k) → greatest f n ≡ greatest g n
-unfolding greatest
-greatest-same f g zero h = refl
-greatest-same f g (suc n) h = rw (greatest-same f g n (λ k l. h k (omega arith)), h n (omega arith))

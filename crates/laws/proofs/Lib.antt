@@ -8,3 +8,4 @@ pub mod Part
 pub mod Row
 pub mod Cases
 pub mod Matching
+pub mod Count

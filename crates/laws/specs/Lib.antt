@@ -4,4 +4,5 @@ pub mod Lowest
 pub mod Test
 pub mod Part
 pub mod Row
+pub mod Count
 pub mod Matching

@@ -11,17 +11,18 @@ use Rattle.laws.specs.Row.{at, row}
 use Rattle.laws.proofs.Row.{row-same}
 use Rattle.words.specs.declared.Verdict.the-variants.{Done}
 use Rattle.words.specs.Number.{word, bytes, numbers, AreBytes}
-use Rattle.words.proofs.Order.{then-first, then-second, then-done, passed, refuse-not}
+use Rattle.words.proofs.Order.{then-first, then-second, then-done, passed, passes}
 use Rattle.words.proofs.Bytes.{bytes-numbers, numbers-row, numbers-first}
 use Rattle.job.specs.Job.{fAt, cAt, mAt, nAt, fIn, cIn, mIn, nIn}
 use Rattle.job.specs.Check.{jobVerdict, numbersIn}
 use Rattle.board.specs.Job.{jobIn}
 use Rattle.board.specs.Board.{total, InRange, Legal, Balanced}
+use Rattle.tally.proofs.Faults.{in-range-says}
 use Rattle.board.proofs.Same.{total-same, in-range-same, legal-same, balanced-same}
 use Rattle.sheet.specs.Sheet.{numbersAt, totalsCountAt, totalsAt, sheetLength, crossbarIn, totalIn, sheetNumbers, sheetOf}
-use Rattle.sheet.specs.Audit.{differs, headVerdict, rangeVerdict, sheetVerdict, auditVerdict, Audited}
+use Rattle.sheet.specs.Audit.{differs, headVerdict, sheetVerdict, auditVerdict, Audited}
 use Rattle.sheet.proofs.Counts.{agrees, agreed}
-use Rattle.sheet.proofs.Parts.{range-says, loads-say, spread-says, totals-say}
+use Rattle.sheet.proofs.Parts.{loads-say, spread-says, totals-say}
 use Rattle.sheet.proofs.Saying.{said-length, said-count, said-f, said-c, said-m, said-n, said-crossbar, said-totals-count, said-total}
 
 -- The audit accepts what is written for a legal balanced assignment.
@@ -43,9 +44,9 @@ module _ (job : List ℕ) (a : ℕ → ℕ) where
   unfolding auditVerdict sheetVerdict
   written-audits done range legal balanced =
       then-done _ _ done
-      (then-done _ _ (refuse-not _ 21 _ (rw (eq-eqb _ _ (said-length job a))))
+      (then-done _ _ (passes _ 21 _ (rw (eq-eqb _ _ (said-length job a))))
       (then-done _ _ head-agrees
-      (then-done _ _ (range-says (jobIn job) (crossbarIn (sheetOf job a)) 23 .1 (in-range-same (jobIn job) a _ same range))
+      (then-done _ _ (in-range-says (jobIn job) (crossbarIn (sheetOf job a)) 23 .1 (in-range-same (jobIn job) a _ same range))
       (then-done _ _ (loads-say (jobIn job) (crossbarIn (sheetOf job a)) .1 (legal-same (jobIn job) a _ same legal))
       (then-done _ _ (spread-says (jobIn job) (crossbarIn (sheetOf job a)) .1 (balanced-same (jobIn job) a _ same balanced))
       (totals-say (jobIn job) (crossbarIn (sheetOf job a)) _ .1 (λ x l. said-total job a x l ∙ total-same (jobIn job) a _ same x)))))))
@@ -79,7 +80,7 @@ module _ (job sheet : List ℕ) (done : auditVerdict job sheet ≡ Done) where
         same-m = agreed sheet mAt (mIn job) (then-first _ _ h3);
         same-n = agreed sheet nAt (nIn job) (then-first _ _ h4);
         totals-count = agreed sheet (totalsCountAt (nIn job)) (cIn job) (then-second _ _ h4);
-        in-range = range-says (jobIn job) (crossbarIn sheet) 23 .0 (then-first _ _ p1);
+        in-range = in-range-says (jobIn job) (crossbarIn sheet) 23 .0 (then-first _ _ p1);
         legal = loads-say (jobIn job) (crossbarIn sheet) .0 (then-first _ _ p2);
         balanced = spread-says (jobIn job) (crossbarIn sheet) .0 (then-first _ _ p3);
         totals = totals-say (jobIn job) (crossbarIn sheet) (totalIn (nIn job) sheet) .0 (then-second _ _ p3);

@@ -8,14 +8,14 @@ use Rattle.words.specs.declared.Verdict.{Verdict}
 use Rattle.words.specs.declared.Verdict.the-variants.{Done}
 use Rattle.words.specs.Verdict.{refuse, refuseIf, _then_, atByte}
 use Rattle.words.specs.Number.{word}
-use Rattle.words.proofs.Order.{then-assoc, done-then, passed, refuse-not}
+use Rattle.words.proofs.Order.{then-assoc, done-then, passed, passes}
 use Rattle.sheet.specs.Audit.{differs}
 
 -- a number that agrees, one that does not, and one that was tested
 module _ (sheet : List ℕ) (at x : ℕ) where
   pub agrees : word sheet at ≡ x → differs sheet at x ≡ Done
   unfolding differs
-  agrees e = refuse-not _ 22 (atByte at) (rw (eq-eqb _ _ e))
+  agrees e = passes _ 22 (atByte at) (rw (eq-eqb _ _ e))
 
   pub disagrees : (word sheet at ≡ x → ⊥) → differs sheet at x ≡ refuse 22 (atByte at)
   unfolding differs refuseIf

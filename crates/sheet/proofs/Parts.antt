@@ -8,46 +8,39 @@ use native.Mathlib.Omega.{arith}
 use lib.Dec.{ltb, leb, eqb}
 use borrow.Author.Tests.{le-ltb, lt-leb, ltb-false, leb-false, eq-eqb, eqb-true, not-false}
 use Rattle.words.specs.declared.Verdict.the-variants.{Done}
-use Rattle.words.specs.Verdict.{atNet, atLoad, atCrossbar}
-use Rattle.words.proofs.Order.{first-done, first-all, first-same, none-refused, refuse-none}
+use Rattle.words.specs.Verdict.{atLoad, atCrossbar}
+use Rattle.words.proofs.Order.{first-done, first-all, first-same, tests-say}
 use Rattle.laws.specs.Sum.{greatest}
 use Rattle.laws.proofs.Greatest.{greatest-ge, greatest-le, greatest-same}
 use Rattle.board.specs.Job.{Job}
-use Rattle.board.specs.Board.{load, total, InRange, Legal, Balanced}
+use Rattle.board.specs.Board.{load, total, Legal, Balanced}
 use Rattle.board.proofs.Excess.{legal-within, within-legal}
 use Rattle.board.proofs.Spread.{balanced-near, near-balanced}
-use Rattle.sheet.specs.Audit.{rangeVerdict, loadsVerdict, spreadVerdict, totalsVerdict}
+use Rattle.sheet.specs.Audit.{loadsVerdict, spreadVerdict, totalsVerdict}
 
 module _ (J : Job) (a : ℕ → ℕ) where
-  pub range-says : (k : ℕ) → (rangeVerdict k J a ≡ Done) ↔ InRange J a
-  unfolding rangeVerdict
-  range-says k = (
-    λ h i l. leb-false _ _ (none-refused (λ i. leb (J .c) (a i)) k atNet (J .n) h i l),
-    λ h. refuse-none (λ i. leb (J .c) (a i)) k atNet (J .n) (λ i l. lt-leb _ _ (h i l)),
-  )
-
   pub loads-say : (loadsVerdict J a ≡ Done) ↔ Legal J a
   unfolding loadsVerdict
   loads-say = (
-    λ h. within-legal J a (λ v x lv lx. ltb-false _ _ (none-refused (λ x. ltb (J .width v) (load J a v x)) 24 (atLoad v) (J .c) (first-done _ (J .f) h v lv) x lx)),
-    λ h. first-all _ (J .f) (λ v lv. refuse-none (λ x. ltb (J .width v) (load J a v x)) 24 (atLoad v) (J .c) (λ x lx. le-ltb _ _ (legal-within J a h v x lv lx))),
+    λ h. within-legal J a (λ v x lv lx. ltb-false _ _ (tests-say (λ x. ltb (J .width v) (load J a v x)) 24 (atLoad v) (J .c) .0 (first-done _ (J .f) h v lv) x lx)),
+    λ h. first-all _ (J .f) (λ v lv. tests-say (λ x. ltb (J .width v) (load J a v x)) 24 (atLoad v) (J .c) .1 (λ x lx. le-ltb _ _ (legal-within J a h v x lv lx))),
   )
 
   pub spread-says : (spreadVerdict (total J a) (J .c) ≡ Done) ↔ Balanced J a
   unfolding spreadVerdict
   spread-says = (
     λ h. near-balanced J a (λ x y lx ly.
-        let top : greatest (total J a) (J .c) < total J a y + 2 = leb-false _ _ (none-refused (λ x. leb (total J a x + 2) (greatest (total J a) (J .c))) 25 atCrossbar (J .c) h y ly) in
+        let top : greatest (total J a) (J .c) < total J a y + 2 = leb-false _ _ (tests-say (λ x. leb (total J a x + 2) (greatest (total J a) (J .c))) 25 atCrossbar (J .c) .0 h y ly) in
         omega (arith, greatest-ge (total J a) x (J .c) lx)),
-    λ h. refuse-none (λ x. leb (total J a x + 2) (greatest (total J a) (J .c))) 25 atCrossbar (J .c) (λ x lx.
+    λ h. tests-say (λ x. leb (total J a x + 2) (greatest (total J a) (J .c))) 25 atCrossbar (J .c) .1 (λ x lx.
         lt-leb (total J a x + 2) (greatest (total J a) (J .c)) (omega (arith, greatest-le (total J a) (total J a x + 1) (J .c) (λ y ly. balanced-near J a h y x ly lx)))),
   )
 
   pub totals-say : (written : ℕ → ℕ) → (totalsVerdict (total J a) written (J .c) ≡ Done) ↔ ((x : ℕ) → x < J .c → written x ≡ total J a x)
   unfolding totalsVerdict
   totals-say written = (
-    λ h x l. eqb-true _ _ (not-false _ (none-refused (λ x. not (eqb (written x) (total J a x))) 26 atCrossbar (J .c) h x l)),
-    λ h. refuse-none (λ x. not (eqb (written x) (total J a x))) 26 atCrossbar (J .c) (λ x l. rw (eq-eqb _ _ (h x l))),
+    λ h x l. eqb-true _ _ (not-false _ (tests-say (λ x. not (eqb (written x) (total J a x))) 26 atCrossbar (J .c) .0 h x l)),
+    λ h. tests-say (λ x. not (eqb (written x) (total J a x))) 26 atCrossbar (J .c) .1 (λ x l. rw (eq-eqb _ _ (h x l))),
   )
 
 -- totals that agree below c have the same verdicts

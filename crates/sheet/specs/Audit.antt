@@ -9,13 +9,14 @@ use Rattle.laws.specs.Sum.{greatest}
 use Rattle.laws.specs.Row.{at}
 use Rattle.words.specs.declared.Verdict.{Verdict}
 use Rattle.words.specs.declared.Verdict.the-variants.{Done}
-use Rattle.words.specs.Verdict.{refuseIf, _then_, firstRefusal, atByte, atNet, atLoad, atCrossbar, ofLength, nowhere}
+use Rattle.words.specs.Verdict.{refuseIf, _then_, firstRefusal, atByte, atLoad, atCrossbar, ofLength, nowhere}
 use Rattle.words.specs.Number.{word}
 use Rattle.job.specs.Job.{fAt, cAt, mAt, nAt, fIn, cIn, mIn, nIn}
 use Rattle.job.specs.declared.Board.{Board}
 use Rattle.job.specs.Check.{jobVerdict, numbersIn}
 use Rattle.board.specs.Job.{Job, jobIn}
 use Rattle.board.specs.Board.{load, total, InRange, Legal, Balanced}
+use Rattle.tally.specs.Check.{rangeVerdict}
 use Rattle.sheet.specs.Sheet.{numbersAt, totalsCountAt, sheetLength, crossbarIn, totalIn}
 
 -- 22: the number at this byte is not x
@@ -31,10 +32,6 @@ headVerdict b sheet =
     differs sheet mAt (b .m) then
     differs sheet nAt (b .n) then
     differs sheet (totalsCountAt (b .n)) (b .c)
-
--- 23 in a sheet, 13 in a lent assignment: a crossbar number at or above c
-unfoldable pub rangeVerdict : ℕ → Job → (ℕ → ℕ) → Verdict
-rangeVerdict k J a = firstRefusal (λ i. refuseIf (leb (J .c) (a i)) k (atNet i)) (J .n)
 
 -- 24: a load above m; the lowest FPGA, then the lowest crossbar there
 unfoldable pub loadsVerdict : Job → (ℕ → ℕ) → Verdict
@@ -52,7 +49,7 @@ totalsVerdict totals written c = firstRefusal (λ x. refuseIf (not (eqb (written
 unfoldable pub sheetVerdict : List ℕ → List ℕ → Verdict
 sheetVerdict job sheet =
     headVerdict (numbersIn job) sheet then
-    rangeVerdict 23 (jobIn job) (crossbarIn sheet) then
+    rangeVerdict 23 (cIn job) (crossbarIn sheet) (nIn job) then
     loadsVerdict (jobIn job) (crossbarIn sheet) then
     spreadVerdict (total (jobIn job) (crossbarIn sheet)) (cIn job) then
     totalsVerdict (total (jobIn job) (crossbarIn sheet)) (totalIn (nIn job) sheet) (cIn job)
@@ -69,7 +66,7 @@ writeSheetVerdict job plan room =
     jobVerdict job then
     refuseIf (ltb (length plan) (nIn job)) 11 nowhere then
     refuseIf (ltb room (sheetLength (nIn job) (cIn job))) 11 nowhere then
-    rangeVerdict 13 (jobIn job) (at plan) then
+    rangeVerdict 13 (cIn job) (at plan) (nIn job) then
     loadsVerdict (jobIn job) (at plan) then
     spreadVerdict (total (jobIn job) (at plan)) (cIn job)
 

@@ -2,7 +2,7 @@
 -- Assumes nothing.
 use mathlib.Core.Path.{_≡_, refl, ap, sym, _∙_}
 use mathlib.Core.Bool.{Bool, true, false}
-use mathlib.Core.Logic.{_⊎_, ⊎-elim}
+use mathlib.Core.Logic.{_↔_, _⊎_, ⊎-elim}
 use Prim.Native.Nat.{ℕ, zero, suc, _+_, _≤_, _<_}
 use native.Mathlib.Nat.{eq-or-lt-of-le, le-of-suc-le-suc}
 use native.Mathlib.Numerals.{add-one}
@@ -11,7 +11,7 @@ use Rattle.words.specs.declared.Place.{Place}
 use Rattle.words.specs.declared.Refusal.{Refusal}
 use Rattle.words.specs.declared.Verdict.{Verdict}
 use Rattle.words.specs.declared.Verdict.the-variants.{Done, Refused}
-use Rattle.words.specs.Verdict.{refuseIf, _then_, firstRefusal}
+use Rattle.words.specs.Verdict.{refuse, refuseIf, _then_, firstRefusal}
 
 -- ---- two verdicts, one after the other
 
@@ -52,9 +52,13 @@ unfolding refuseIf
 passed true k place h = cc
 passed false k place h = refl
 
-pub refuse-not : (b : Bool) (k : ℕ) (place : Place) → b ≡ false → refuseIf b k place ≡ Done
+pub passes : (b : Bool) (k : ℕ) (place : Place) → b ≡ false → refuseIf b k place ≡ Done
 unfolding refuseIf
-refuse-not b k place h = rw h
+passes b k place h = rw h
+
+pub refuses : (b : Bool) (k : ℕ) (place : Place) → b ≡ true → refuseIf b k place ≡ refuse k place
+unfolding refuseIf
+refuses b k place h = rw h
 
 -- ---- many verdicts, in order
 
@@ -89,10 +93,24 @@ unfolding firstRefusal
 first-same g h zero e = refl
 first-same g h (suc n) e = rw (first-same g h n (λ i l. e i (omega arith)), e n (omega arith))
 
--- one test for each number: done exactly if all are false
-module _ (t : ℕ → Bool) (k : ℕ) (place : ℕ → Place) (n : ℕ) where
-  pub none-refused : firstRefusal (λ i. refuseIf (t i) k (place i)) n ≡ Done → (i : ℕ) → i < n → t i ≡ false
-  none-refused h i l = passed (t i) k (place i) (first-done (λ i. refuseIf (t i) k (place i)) n h i l)
+-- ---- many tests, in order: the lowest number at which one holds
 
-  pub refuse-none : ((i : ℕ) → i < n → t i ≡ false) → firstRefusal (λ i. refuseIf (t i) k (place i)) n ≡ Done
-  refuse-none h = first-all (λ i. refuseIf (t i) k (place i)) n (λ i l. refuse-not (t i) k (place i) (h i l))
+module _ (t : ℕ → Bool) (k : ℕ) (place : ℕ → Place) where
+  abbrev pub tested : ℕ → Verdict
+  tested = firstRefusal (λ i. refuseIf (t i) k (place i))
+
+  pub tests-start : tested 0 ≡ Done
+  unfolding firstRefusal
+  tests-start = refl
+
+  pub tests-pass : (i : ℕ) → tested i ≡ Done → t i ≡ false → tested (i + 1) ≡ Done
+  tests-pass i p h = first-next _ i p ∙ passes (t i) k (place i) h
+
+  pub tests-stop : (i n : ℕ) → tested i ≡ Done → t i ≡ true → i < n → tested n ≡ refuse k (place i)
+  tests-stop i n p h l = first-stops _ i n _ p (refuses (t i) k (place i) h) l
+
+  pub tests-say : (n : ℕ) → (tested n ≡ Done) ↔ ((i : ℕ) → i < n → t i ≡ false)
+  tests-say n = (
+    λ p i l. passed (t i) k (place i) (first-done _ n p i l),
+    λ h. first-all _ n (λ i l. passes (t i) k (place i) (h i l)),
+  )

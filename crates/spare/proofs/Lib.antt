@@ -1,0 +1,3 @@
+-- The laws of spare and headroom.
+pub mod Fitting
+pub mod Rooms

@@ -1,0 +1,2 @@
+-- Spare and headroom.
+pub mod Spare

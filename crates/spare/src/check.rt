@@ -1,0 +1,53 @@
+// The refusals of spare and headroom: of the job, then of the FPGAs asked about.
+ghost use mathlib.Core.Path.{_≡_};
+ghost use Rattle.spare.specs.Spare.{fittingOf, askedVerdict, bothVerdict};
+use job::Checked;
+use job::check::check_job;
+use tally::check::check_degrees;
+use words::Fpga;
+use words::Place;
+use words::Verdict;
+use words::number::wide;
+use words::refuse;
+
+// Refusals 1 to 10 and 12, with the numbers that the job check found.
+pub fn check_fitting(job: &[u8]) -> Checked
+    ensures { λ r. ⌜ r ≡ fittingOf (now (job .entry)) ⌝ }
+{
+    let checked = check_job(job);
+    let found = checked.verdict;
+    if let Verdict::Refused(_) = found {
+        return checked;
+    }
+    let board = checked.board;
+    let verdict = check_degrees(job, board);
+    Checked { verdict, board }
+}
+
+// Refusal 9 of an FPGA that is asked about.
+pub fn check_asked(f: usize, v: Fpga) -> Verdict
+    ensures { λ r. ⌜ r ≡ askedVerdict f (v .0) ⌝ }
+{
+    if f <= wide(v.0) {
+        return refuse(9, Place::Fpga(v));
+    }
+    Verdict::Done
+}
+
+// Refusals 9 and 10 of two.
+pub fn check_both(f: usize, v: Fpga, w: Fpga) -> Verdict
+    ensures { λ r. ⌜ r ≡ bothVerdict f (v .0) (w .0) ⌝ }
+{
+    let first = check_asked(f, v);
+    if let Verdict::Refused(_) = first {
+        return first;
+    }
+    let second = check_asked(f, w);
+    if let Verdict::Refused(_) = second {
+        return second;
+    }
+    if v.0 == w.0 {
+        return refuse(10, Place::Fpga(v));
+    }
+    Verdict::Done
+}

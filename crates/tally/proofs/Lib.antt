@@ -1,0 +1,4 @@
+-- The laws that the proofs of the functions lean on.
+pub mod Walks
+pub mod Faults
+pub mod Crossbars

@@ -1,0 +1,2 @@
+-- Refusals 12 and 13.
+pub mod Check

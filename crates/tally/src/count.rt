@@ -1,0 +1,66 @@
+// Counters, each filled by one walk over the nets.
+ghost use mathlib.Core.Path.{_≡_};
+ghost use Prim.Native.Nat.{ℕ, _≤_, _<_};
+ghost use lib.ListN.{length};
+ghost use Rattle.laws.specs.Row.{at};
+ghost use Rattle.laws.specs.Count.{Counted};
+ghost use Rattle.job.specs.Check.{Passed};
+ghost use Rattle.board.specs.Job.{Job, jobIn};
+ghost use Rattle.board.specs.Board.{degree, load, total};
+use job::Board;
+use job::read::first_end;
+use job::read::second_end;
+use words::number::wide;
+
+// The loads of all FPGAs at crossbar x.
+pub fn loads_on(job: &[u8], b: Board, a: &[u16], x: usize) -> [u16; 256]
+    requires { ⌜ (Passed (now job) b) × (b .n ≤ length (now a)) ⌝ }
+    ensures { λ r. ⌜ Counted r 256 (λ v. load (jobIn (now (job .entry))) (at (now (a .entry))) v x) ⌝ }
+{
+    let mut count = [0u16; 256];
+    let mut i: usize = 0;
+    while i < b.n {
+        let net = i;
+        i += 1;
+        if wide(a[net]) == x {
+            let v = first_end(job, b.start, net);
+            let w = second_end(job, b.start, net);
+            count[v] += 1;
+            count[w] += 1;
+        }
+    }
+    count
+}
+
+// The degrees of all FPGAs.
+pub fn degrees(job: &[u8], b: Board) -> [u16; 256]
+    requires { ⌜ Passed (now job) b ⌝ }
+    ensures { λ r. ⌜ Counted r 256 (degree (jobIn (now (job .entry)))) ⌝ }
+{
+    let mut ends = [0u16; 256];
+    let mut i: usize = 0;
+    while i < b.n {
+        let v = first_end(job, b.start, i);
+        let w = second_end(job, b.start, i);
+        ends[v] += 1;
+        ends[w] += 1;
+        i += 1;
+    }
+    ends
+}
+
+// The totals of all crossbars, of any job with n nets.
+pub fn totals_of(a: &[u16], n: usize) -> [u16; 128]
+    requires { ⌜ (n ≤ 4096) × (n ≤ length (now a)) ⌝ }
+    requires { ⌜ ((i : ℕ) → i < n → at (now a) i < 128) ⌝ }
+    ensures { λ r. ⌜ ((J : Job) → J .n ≡ n → Counted r 128 (total J (at (now (a .entry))))) ⌝ }
+{
+    let mut nets = [0u16; 128];
+    let mut i: usize = 0;
+    while i < n {
+        let x = wide(a[i]);
+        nets[x] += 1;
+        i += 1;
+    }
+    nets
+}
