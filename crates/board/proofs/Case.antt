@@ -13,7 +13,7 @@ use Rattle.board.specs.Board.{endsAt, load, total, excess, totalExcess, 
 use Rattle.board.specs.Rule.{differ, movedTest, halvesTest, clausesTest, totalsTest, ruleTest}
 
 -- the numbers of a list, by place
-abbrev listed : List ℕ → ℕ → ℕ
+abbrev pub listed : List ℕ → ℕ → ℕ
 listed l i = getD l i 0
 
 -- nets 0-1, 1-2, 0-1, 1-2, 0-2
@@ -45,7 +45,7 @@ unfolding ruleTest movedTest clausesTest halvesTest totalsTest differ every load
 six-results = (refl, refl, refl, refl)
 
 -- Of the 32 ways to put five nets on crossbars 0 and 1 only those four pass. Net i of way k is on the binary digit i of k.
-abbrev way : ℕ → ℕ → ℕ
+abbrev pub way : ℕ → ℕ → ℕ
 way k i = k / 2 ^ i % 2
 
 pub six-no-other : every (λ k. Bool·beq (passes (way k)) (eqb k 3 || eqb k 9 || eqb k 6 || eqb k 12)) 32 ≡ true

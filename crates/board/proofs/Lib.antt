@@ -1,6 +1,7 @@
 -- The laws of the board's arithmetic.
 pub mod Loads
 pub mod Excess
+pub mod Alike
 pub mod Limit
 pub mod Change
 pub mod Spread
@@ -9,4 +10,3 @@ pub mod Halves
 pub mod Rule
 pub mod Case
 pub mod Sound
-pub mod Same

@@ -1,18 +1,19 @@
 -- The test of the round's rule passes exactly where the rule holds; and what the rule gives.
 -- Assumes nothing.
-use mathlib.Core.Path.{_≡_, ap, sym, _∙_}
+use mathlib.Core.Path.{_≡_, ap, ap₂, sym, _∙_}
 use mathlib.Core.Bool.{Bool, false, cond}
 use mathlib.Core.Logic.{_≢_, _⊎_, ⊎-elim}
-use Prim.Native.Nat.{ℕ, _+_, _*_, _%_, _≤_, _<_}
+use Prim.Native.Nat.{ℕ, _+_, _*_, _/_, _%_, _≤_, _<_}
 use native.Mathlib.Omega.{arith}
 use lib.Dec.{eqb}
 use borrow.Author.Tests.{ne-eqb}
 use Rattle.laws.specs.Test.{Says}
+use Rattle.laws.proofs.Cases.{by-two}
 use Rattle.laws.proofs.Test.{eqb-says, leb-says, and-says, or-says, implies-says, every-says}
 use Rattle.board.specs.Job.{Job}
 use Rattle.board.specs.Board.{load, total, spread, totalExcess, InRange, Balanced}
 use Rattle.board.specs.Rule.{differ, OnTwo, Halves, Clauses, Recoloured, onTwoTest, movedTest, halvesTest, clausesTest, totalsTest, ruleTest}
-use Rattle.board.proofs.Change.{on-two, moved-in-range, totalExcess-less}
+use Rattle.board.proofs.Change.{on-two, moved-in-range, total-elsewhere, totals-together, totalExcess-less}
 use Rattle.board.proofs.Spread.{spread-no-more}
 
 pub on-two-says : (A B x : ℕ) → Says (onTwoTest A B x) (OnTwo A B x)
@@ -100,3 +101,19 @@ module _ (J : Job) (a b : ℕ → ℕ) (A B : ℕ) (r : Recoloured J a b A B) (l
 
   pub rule-balanced : A ≢ B → Balanced J a → Balanced J b
   rule-balanced ne h = omega (arith, rule-spread-no-more ne)
+
+-- The new totals are fixed by the old: half of the two together on each, and an odd net on A.
+module _ (J : Job) (a b : ℕ → ℕ) (A B : ℕ) (r : Recoloured J a b A B) (ne : A ≢ B) where
+  pub rule-totals : (total J b A ≡ (total J a A + total J a B + 1) / 2) × (total J b B ≡ (total J a A + total J a B) / 2)
+  rule-totals =
+      ⊎-elim (λ e. (omega (arith, totals-together J a b A B (r .moved) ne), omega (arith, totals-together J a b A B (r .moved) ne)))
+      (λ e. (omega (arith, totals-together J a b A B (r .moved) ne), omega (arith, totals-together J a b A B (r .moved) ne))) (r .totals)
+
+-- so results of starts with the same totals have the same totals
+module _ (J : Job) (a a′ b b′ : ℕ → ℕ) (A B : ℕ) (r : Recoloured J a b A B) (r′ : Recoloured J a′ b′ A B) (ne : A ≢ B) where
+  pub rule-totals-once : total J a A ≡ total J a′ A → total J a B ≡ total J a′ B → (x : ℕ) → total J a x ≡ total J a′ x → total J b x ≡ total J b′ x
+  rule-totals-once p q =
+      by-two (λ x. total J a x ≡ total J a′ x → total J b x ≡ total J b′ x) A B
+      (λ _. rule-totals J a b A B r ne .0 ∙ ap (λ (k : ℕ). (k + 1) / 2) (ap₂ _+_ p q) ∙ sym (rule-totals J a′ b′ A B r′ ne .0))
+      (λ _. rule-totals J a b A B r ne .1 ∙ ap (λ (k : ℕ). k / 2) (ap₂ _+_ p q) ∙ sym (rule-totals J a′ b′ A B r′ ne .1))
+      (λ x na nb e. total-elsewhere J a b A B (r .moved) x na nb ∙ e ∙ sym (total-elsewhere J a′ b′ A B (r′ .moved) x na nb))

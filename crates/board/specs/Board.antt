@@ -37,6 +37,10 @@ totalExcess J a = sum (excess J a) (J .f)
 abbrev pub InRange : Job → (ℕ → ℕ) → Type 0
 InRange J a = (i : ℕ) → i < J .n → a i < J .c
 
+-- two assignments that agree on every net
+abbrev pub Alike : Job → (ℕ → ℕ) → (ℕ → ℕ) → Type 0
+Alike J a b = (i : ℕ) → i < J .n → a i ≡ b i
+
 abbrev pub Legal : Job → (ℕ → ℕ) → Type 0
 Legal J a = totalExcess J a ≡ 0
 

@@ -1,10 +1,16 @@
--- Cases on whether a number is a given one, one of two, or in the first half of 2 k.
+-- Cases on whether a test holds, and on whether a number is a given one, one of two, or in the first half of 2 k.
 -- Assumes nothing.
-use mathlib.Core.Path.{_≡_, sym, subst}
+use mathlib.Core.Path.{_≡_, refl, sym, subst}
+use mathlib.Core.Bool.{Bool, true, false}
 use mathlib.Core.Logic.{_≢_, dite}
 use Prim.Native.Nat.{ℕ, _+_, _-_, _<_}
 use native.Mathlib.Decide.{ℕ-discrete, decLt}
 use native.Mathlib.Omega.{arith}
+
+-- a test holds or fails
+pub by-test : {C : Type 0} (b : Bool) → (b ≡ true → C) → (b ≡ false → C) → C
+by-test true f g = f refl
+by-test false f g = g refl
 
 -- two numbers are equal or not
 pub by-same : {C : Type 0} (a b : ℕ) → (a ≡ b → C) → (a ≢ b → C) → C

@@ -3,6 +3,7 @@ pub mod Sum
 pub mod Greatest
 pub mod Remainder
 pub mod Lowest
+pub mod FirstWhere
 pub mod Test
 pub mod Part
 pub mod Row

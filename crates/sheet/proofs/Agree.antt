@@ -18,7 +18,7 @@ use Rattle.job.specs.Check.{jobVerdict, numbersIn}
 use Rattle.board.specs.Job.{jobIn}
 use Rattle.board.specs.Board.{total, InRange, Legal, Balanced}
 use Rattle.tally.proofs.Faults.{in-range-says}
-use Rattle.board.proofs.Same.{total-same, in-range-same, legal-same, balanced-same}
+use Rattle.board.proofs.Alike.{total-alike, spread-alike, excess-alike, in-range-alike}
 use Rattle.sheet.specs.Sheet.{numbersAt, totalsCountAt, totalsAt, sheetLength, crossbarIn, totalIn, sheetNumbers, sheetOf}
 use Rattle.sheet.specs.Audit.{differs, headVerdict, sheetVerdict, auditVerdict, Audited}
 use Rattle.sheet.proofs.Counts.{agrees, agreed}
@@ -46,10 +46,10 @@ module _ (job : List ℕ) (a : ℕ → ℕ) where
       then-done _ _ done
       (then-done _ _ (passes _ 21 _ (rw (eq-eqb _ _ (said-length job a))))
       (then-done _ _ head-agrees
-      (then-done _ _ (in-range-says (jobIn job) (crossbarIn (sheetOf job a)) 23 .1 (in-range-same (jobIn job) a _ same range))
-      (then-done _ _ (loads-say (jobIn job) (crossbarIn (sheetOf job a)) .1 (legal-same (jobIn job) a _ same legal))
-      (then-done _ _ (spread-says (jobIn job) (crossbarIn (sheetOf job a)) .1 (balanced-same (jobIn job) a _ same balanced))
-      (totals-say (jobIn job) (crossbarIn (sheetOf job a)) _ .1 (λ x l. said-total job a x l ∙ total-same (jobIn job) a _ same x)))))))
+      (then-done _ _ (in-range-says (jobIn job) (crossbarIn (sheetOf job a)) 23 .1 (in-range-alike (jobIn job) a _ same range))
+      (then-done _ _ (loads-say (jobIn job) (crossbarIn (sheetOf job a)) .1 (sym (excess-alike (jobIn job) a _ same) ∙ legal))
+      (then-done _ _ (spread-says (jobIn job) (crossbarIn (sheetOf job a)) .1 (rw (spread-alike (jobIn job) a (crossbarIn (sheetOf job a)) same) at balanced))
+      (totals-say (jobIn job) (crossbarIn (sheetOf job a)) _ .1 (λ x l. said-total job a x l ∙ total-alike (jobIn job) a _ same x)))))))
 
 -- What an audit that is done has shown.
 module _ (job sheet : List ℕ) (done : auditVerdict job sheet ≡ Done) where
@@ -114,7 +114,7 @@ module _ (job sheet : List ℕ) (small : AreBytes sheet) (e : Audited job sheet)
 -- Two sheets of a job with the same meaning are the same bytes.
 pub same-sheet : (job : List ℕ) (a b : ℕ → ℕ) → ((i : ℕ) → i < nIn job → a i ≡ b i) → sheetOf job a ≡ sheetOf job b
 unfolding sheetOf
-same-sheet job a b h = rw (row-same a b (nIn job) h, row-same (total (jobIn job) a) (total (jobIn job) b) (cIn job) (λ x l. total-same (jobIn job) a b h x))
+same-sheet job a b h = rw (row-same a b (nIn job) h, row-same (total (jobIn job) a) (total (jobIn job) b) (cIn job) (λ x l. total-alike (jobIn job) a b h x))
 
 pub same-meaning : (job sheet₁ sheet₂ : List ℕ) → AreBytes sheet₁ → AreBytes sheet₂ → auditVerdict job sheet₁ ≡ Done → auditVerdict job sheet₂ ≡ Done
     → ((i : ℕ) → i < nIn job → crossbarIn sheet₁ i ≡ crossbarIn sheet₂ i) → sheet₁ ≡ sheet₂

@@ -1,4 +1,5 @@
 -- The order of refusals, and numbers of two bytes.
 pub mod Order
+pub mod LowestRefusal
 pub mod Bytes
 pub mod Stretches

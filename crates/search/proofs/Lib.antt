@@ -1,0 +1,5 @@
+-- The laws of the search.
+pub mod Tests
+pub mod Answers
+pub mod Columns
+pub mod Alike

@@ -1,0 +1,3 @@
+-- What a round is made on.
+pub mod Search
+pub mod Columns
