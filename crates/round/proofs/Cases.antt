@@ -20,7 +20,7 @@ use Rattle.board.proofs.Case.{listed, way}
 use Rattle.board.proofs.Rule.{rule-says, rule-totals, rule-totals-once}
 use Rattle.search.specs.Search.{overAt, roomAt, overFpga, fpgaOf, crowdedOf, roomOf, over, searchOf}
 use Rattle.search.proofs.Alike.{search-by-loads}
-use Rattle.round.specs.Degree.{degreeVerdict}
+use Rattle.tally.specs.Check.{degreeVerdict}
 use Rattle.round.specs.Round.{RoundStep, Chain, Finished}
 use Rattle.round.proofs.Condition2.{degree-done}
 use Rattle.round.proofs.Condition3.{round-not-legal}
