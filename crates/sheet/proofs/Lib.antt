@@ -1,5 +1,6 @@
 -- The laws of the sheet.
 pub mod Counts
 pub mod Parts
+pub mod Lowest
 pub mod Saying
 pub mod Agree

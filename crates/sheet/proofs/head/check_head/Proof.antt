@@ -1,45 +1,34 @@
+-- `sheet::head::check_head` meets its contract.
 use Rattle.sheet.proofs.Counts.{six-in-order}
 use Rattle.sheet.specs.Audit.{headVerdict}
 use borrow.Author.Needs.{needs}
 use Rattle.sheet.proofs.head.check_head.Statement.{statement}
 use Rattle.sheet.proofs.head.check_head.Tie as tie
-use Rattle.sheet.proofs.head.check_head.Reads as reads
-use Rattle.sheet.proofs.head.check_head.Lts as lts
-use Rattle.sheet.proofs.head.then_number.Reads as then-number-reads
 
--- src/head.rt:33:9
 then-number-requires : tie.Need-then-number-requires
 then-number-requires c κs = search needs
 
--- src/head.rt:34:9
 then-number-requires-2 : tie.Need-then-number-requires-2
 then-number-requires-2 c κs = search needs
 
--- src/head.rt:35:9
 then-number-requires-3 : tie.Need-then-number-requires-3
 then-number-requires-3 c κs = search needs
 
--- src/head.rt:36:9
 then-number-requires-4 : tie.Need-then-number-requires-4
 then-number-requires-4 c κs = search needs
 
--- src/head.rt:37:9
 then-number-requires-5 : tie.Need-then-number-requires-5
 then-number-requires-5 c κs = search needs
 
--- src/head.rt:38:47
 mul-then-number : tie.Need-mul-then-number
 mul-then-number c = search needs
 
--- src/head.rt:38:27
 add-then-number : tie.Need-add-then-number
 add-then-number c = search needs
 
--- src/head.rt:38:5
 then-number-requires-6 : tie.Need-then-number-requires-6
 then-number-requires-6 c κs = search needs
 
--- src/head.rt:29:1
 returns : tie.Need-returns
 unfolding headVerdict
 returns c = six-in-order _ _ _ _ _ _ _ _ _ _ _ _ (c .before .before .before .before .before .before .then-number .ensures) (c .before .before .before .before .before .then-number2 .ensures) (c .before .before .before .before .then-number3 .ensures) (c .before .before .before .then-number4 .ensures) (c .before .before .then-number5 .ensures) (c .then-number6 .ensures)

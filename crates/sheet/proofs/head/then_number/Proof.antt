@@ -1,3 +1,4 @@
+-- `sheet::head::then_number` meets its contract.
 use Rattle.sheet.proofs.Counts.{agrees, disagrees}
 use Rattle.words.proofs.Order.{then-refused, then-next}
 use native.Mathlib.Omega.{arith}
@@ -5,17 +6,10 @@ use mathlib.Core.Path.{_≡_, sym, _∙_}
 use borrow.Author.Needs.{needs}
 use Rattle.sheet.proofs.head.then_number.Statement.{statement}
 use Rattle.sheet.proofs.head.then_number.Tie as tie
-use Rattle.sheet.proofs.head.then_number.Reads as reads
-use Rattle.sheet.proofs.head.then_number.Lts as lts
-use Rattle.words.proofs.number.read.Reads as read-reads
-use Rattle.words.proofs.number.wide.Reads as wide-reads
-use Rattle.words.proofs.refuse.Reads as refuse-reads
 
--- src/head.rt:21:9
 enum-told : tie.Need-enum-told
 enum-told c = search needs
 
--- src/head.rt:21:9
 returns : tie.Need-returns
 returns c = let told = c .enum-told .given .1 in
     told ∙ sym (then-refused _ _ _ told)
@@ -23,23 +17,18 @@ returns c = let told = c .enum-told .given .1 in
 enum-told-2 : tie.Need-enum-told-2
 enum-told-2 c = search needs
 
--- src/head.rt:23:13
 read-requires : tie.Need-read-requires
 read-requires c κs = search needs
 
--- src/head.rt:23:8
 wide-requires : tie.Need-wide-requires
 wide-requires c κs = search needs
 
--- src/head.rt:24:9
 refuse-requires : tie.Need-refuse-requires
 refuse-requires c κs = search needs
 
--- src/head.rt:24:9
 returns-2 : tie.Need-returns-2
 returns-2 c = c .refuse .ensures ∙ sym (then-next _ _ (c .before .before .before .before .enum-told2 .given .1) ∙ disagrees _ _ _ (omega arith))
 
--- src/head.rt:16:1
 returns-3 : tie.Need-returns-3
 returns-3 c = let told = c .before .before .before .enum-told2 .given .1 in
     told ∙ sym (then-next _ _ told ∙ agrees _ _ _ (omega arith))
