@@ -1,5 +1,6 @@
 -- The laws of the definitions in specs/.
 pub mod Sum
+pub mod Rank
 pub mod Greatest
 pub mod Remainder
 pub mod Lowest
