@@ -2,7 +2,7 @@
 -- Assumes nothing.
 use mathlib.Core.Path.{_≡_, refl, ap, sym, _∙_}
 use mathlib.Core.List.{List, [], _∷_, _++_}
-use Prim.Native.Nat.{ℕ, _+_, _-_, _*_, _≤_, _<_}
+use Prim.Native.Nat.{ℕ, _+_, _*_, _≤_, _<_}
 use lib.ListN.{length, take, drop}
 use borrow.Author.Tests.{lt-ltb, le-ltb, ltb-false}
 use Rattle.words.specs.declared.Refusal.{Refusal}
@@ -10,8 +10,7 @@ use Rattle.words.specs.declared.Verdict.the-variants.{Done, Refused}
 use Rattle.words.specs.Verdict.{refuse, refuseIf, _then_, nowhere}
 use Rattle.words.specs.Number.{bytes}
 use Rattle.words.specs.Lent.{onto}
-use Rattle.laws.specs.Part.{put}
-use Rattle.words.proofs.Bytes.{onto-behind}
+use Rattle.words.proofs.Bytes.{onto-onto}
 use Rattle.words.proofs.Order.{then-first, then-second, passed}
 use Rattle.job.specs.Job.{netsAt, jobLength}
 use Rattle.job.specs.Check.{rangesVerdict, netsVerdict}
@@ -55,8 +54,8 @@ module _ (f c m n : ℕ) (ends : List ℕ) (room : ℕ) where
     wrote-nets = then-second _ _ (then-second _ _ (then-second _ _ done))
 
 -- the five numbers of the head, and the nets behind them
-pub head-then-nets : (f c m n count : ℕ) (ends r room new : List ℕ) → count ≡ 2 * n → netsAt ≤ length r → room ≡ onto (bytes (3 ∷ f ∷ c ∷ m ∷ n ∷ [])) r
-    → new ≡ onto (bytes (take count ends)) (take (length room - netsAt) (drop netsAt room)) → put room netsAt (length room - netsAt) new ≡ onto (jobOf f c m n ends) r
+pub head-then-nets : (f c m n count : ℕ) (ends r room new : List ℕ) → count ≡ 2 * n → room ≡ onto (bytes (3 ∷ f ∷ c ∷ m ∷ n ∷ [])) r
+    → new ≡ take netsAt room ++ onto (bytes (take count ends)) (drop netsAt room) → new ≡ onto (jobOf f c m n ends) r
 unfolding jobOf
-head-then-nets f c m n count ends r room new e h q z =
-    rw (z, e) (onto-behind (bytes (3 ∷ f ∷ c ∷ m ∷ n ∷ [])) (bytes (take (2 * n) ends)) r room netsAt refl h q)
+head-then-nets f c m n count ends r room new e q z =
+    rw (z, e, q) (onto-onto (bytes (3 ∷ f ∷ c ∷ m ∷ n ∷ [])) (bytes (take (2 * n) ends)) r netsAt refl)

@@ -15,6 +15,7 @@ use words::Net;
 use words::Place;
 use words::Verdict;
 use words::number::wide;
+use words::number::write_behind;
 use words::number::write_list;
 use words::refuse;
 
@@ -61,7 +62,7 @@ fn put_job(f: u16, c: u16, m: u16, n: u16, ends: &[u16], room: &mut [u8])
     let head: [u16; 5] = [3, f, c, m, n];
     write_list(room, &head);
     let count = 2 * wide(n);
-    write_list(&mut room[NETS_AT..], &ends[..count]);
+    write_behind(room, NETS_AT, &ends[..count]);
 }
 
 // The job of a board f, c, m with n nets, whose FPGAs stand in `ends`, two for each net, to the front of the room.

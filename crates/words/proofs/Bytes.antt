@@ -114,13 +114,15 @@ onto-onto xs ys r k e =
 pub length-onto : (xs r : List ℕ) → length xs ≤ length r → length (onto xs r) ≡ length r
 length-onto xs r h = simp (length-append, length-drop) (omega arith)
 
--- the same where the rest of the room, from k on, was lent and has come back
-pub onto-behind : (xs ys r room : List ℕ) (k : ℕ) → length xs ≡ k → k ≤ length r → room ≡ onto xs r
-    → put room k (length room - k) (onto ys (take (length room - k) (drop k room))) ≡ onto (xs ++ ys) r
-onto-behind xs ys r room k e h q =
-    let all : take (length room - k) (drop k room) ≡ drop k room = take-all (length room - k) (drop k room) (simp length-drop (omega arith)) in
+-- a room whose rest, from k on, was lent and has come back
+pub put-to-end : (room new : List ℕ) (k : ℕ) → put room k (length room - k) new ≡ take k room ++ new
+put-to-end room new k =
     let none : drop (length room - k) (drop k room) ≡ [] = drop-of-length-le (drop k room) {i = length room - k} (simp length-drop (omega arith)) in
-    rw (all, none, append-nil) (ap (λ (t : List ℕ). take k t ++ onto ys (drop k t)) q ∙ onto-onto xs ys r k e)
+    rw (none, append-nil)
+
+-- what was lent
+pub lent-to-end : (room : List ℕ) (k : ℕ) → take (length room - k) (drop k room) ≡ drop k room
+lent-to-end room k = take-all (length room - k) (drop k room) (simp length-drop (omega arith))
 
 -- one more of a list of numbers
 pub write-next : (xs r room : List ℕ) (i : ℕ) → i < length xs → 2 * length xs ≤ length r → room ≡ onto (bytes (take i xs)) r

@@ -1,7 +1,8 @@
 // A number of two bytes, high byte first: read and written here and nowhere else.
 ghost use mathlib.Core.Path.{_≡_};
 ghost use Prim.Native.Nat.{_+_, _*_, _≤_, _<_};
-ghost use lib.ListN.{length, take};
+ghost use mathlib.Core.List.{_++_};
+ghost use lib.ListN.{length, take, drop};
 ghost use Rattle.words.specs.Number.{word, bytes, numbers, putWord};
 ghost use Rattle.words.specs.Lent.{onto};
 
@@ -44,6 +45,14 @@ pub fn write_list(room: &mut [u8], xs: &[u16])
         write(room, 2 * i, xs[i]);
         i += 1;
     }
+}
+
+// The same from byte `start` on, where what stands before it stays.
+pub fn write_behind(room: &mut [u8], start: usize, xs: &[u16])
+    requires { ⌜ start + 2 * length (now xs) ≤ length (now room) ⌝ }
+    ensures { λ r. ⌜ now (room .exit) ≡ take start (now (room .entry)) ++ onto (bytes (now (xs .entry))) (drop start (now (room .entry))) ⌝ }
+{
+    write_list(&mut room[start..], xs);
 }
 
 // Reads as many numbers as `out` has room for from the front of the bytes.

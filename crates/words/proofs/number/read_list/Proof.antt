@@ -1,3 +1,4 @@
+-- `words::number::read_list` meets its contract.
 use Rattle.words.proofs.Bytes.{read-next, onto-whole, length-numbers}
 use lib.Seq.{length-take-le}
 use Rattle.words.specs.Number.{numbers}
@@ -9,9 +10,6 @@ use mathlib.Core.Path.{_≡_, refl, ap, _∙_}
 use Prim.Native.Nat.{_≤_, _-_}
 use Rattle.words.proofs.number.read_list.Statement.{statement}
 use Rattle.words.proofs.number.read_list.Tie as tie
-use Rattle.words.proofs.number.read_list.Reads as reads
-use Rattle.words.proofs.number.read_list.Lts as lts
-use Rattle.words.proofs.number.read.Reads as read-reads
 
 abbrev Inv-loop : tie.InvT-loop
 Inv-loop s out₀ i₀ out i = (i ≤ length out₀) × (length out ≡ length out₀) × (out ≡ onto (take i (numbers s)) out₀)
@@ -19,44 +17,34 @@ Inv-loop s out₀ i₀ out i = (i ≤ length out₀) × (length out ≡ length o
 abbrev μ-loop : tie.MeasureT-loop
 μ-loop s out₀ i₀ out i = length out₀ - i
 
--- src/number.rt:55:5
 loop-holds : tie.Need-loop-holds Inv-loop μ-loop
 loop-holds c = (omega arith, refl, refl)
 
--- src/number.rt:56:26
 mul-read : tie.Need-mul-read Inv-loop μ-loop
 mul-read c = search needs
 
--- src/number.rt:56:18
 read-requires : tie.Need-read-requires Inv-loop μ-loop
 read-requires c κs = search needs
 
--- src/number.rt:56:9
 mul-out : tie.Need-mul-out Inv-loop μ-loop
 mul-out c = search needs
 
--- src/number.rt:56:9
 slice-write-out : tie.Need-slice-write-out Inv-loop μ-loop
 slice-write-out c = search needs
 
--- src/number.rt:57:9
 add-i : tie.Need-add-i Inv-loop μ-loop
 add-i c = search needs
 
--- src/number.rt:55:5
 loop-less : tie.Need-loop-less Inv-loop μ-loop
 loop-less c = search needs
 
--- src/number.rt:55:5
 loop-again : tie.Need-loop-again Inv-loop μ-loop
 loop-again c = let l = c .before .before .loop in
     (omega arith, simp length-set (l .inv .1), ap (set (l .out) (l .i)) (c .read .ensures) ∙ read-next _ _ (l .out) (l .i) (omega arith) (omega arith) (l .inv .2))
 
--- src/number.rt:50:1
 same-length : tie.Need-same-length Inv-loop μ-loop
 same-length c = search needs
 
--- src/number.rt:50:1
 returns : tie.Need-returns Inv-loop μ-loop
 returns c = let l = c .before .loop in
     let a = c .before .before .before .before .args in
