@@ -2,5 +2,6 @@
 pub mod Counts
 pub mod Parts
 pub mod Lowest
+pub mod Putting
 pub mod Saying
 pub mod Agree

@@ -1,8 +1,10 @@
 -- The sheet: count 3, then f, c, m; count n, then n crossbar numbers in net order; count c, then c totals.
 use mathlib.Core.List.{List, _∷_, _++_}
 use Prim.Native.Nat.{ℕ, _+_, _*_}
+use lib.ListN.{take}
 use Rattle.laws.specs.Row.{row}
 use Rattle.words.specs.Number.{word, bytes}
+use Rattle.job.specs.declared.Board.{Board}
 use Rattle.job.specs.Job.{fIn, cIn, mIn, nIn}
 use Rattle.board.specs.Job.{jobIn}
 use Rattle.board.specs.Board.{total}
@@ -35,3 +37,7 @@ sheetNumbers job a =
 
 unfoldable pub sheetOf : List ℕ → (ℕ → ℕ) → List ℕ
 sheetOf job a = bytes (sheetNumbers job a)
+
+-- the same bytes from the board's numbers, a list of crossbar numbers and a list of totals
+unfoldable pub sheetBytes : Board → List ℕ → List ℕ → List ℕ
+sheetBytes b plan totals = bytes (3 ∷ b .f ∷ b .c ∷ b .m ∷ b .n ∷ (take (b .n) plan ++ (b .c ∷ take (b .c) totals)))

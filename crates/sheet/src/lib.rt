@@ -1,5 +1,6 @@
 // The sheet: writer, reader, audit, evidence.
 pub mod head;
+pub mod put;
 pub mod totals;
 
 // The byte of the first crossbar number.

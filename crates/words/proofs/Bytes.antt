@@ -124,6 +124,12 @@ put-to-end room new k =
 pub lent-to-end : (room : List ℕ) (k : ℕ) → take (length room - k) (drop k room) ≡ drop k room
 lent-to-end room k = take-all (length room - k) (drop k room) (simp length-drop (omega arith))
 
+-- numbers written behind those that stand at the front of a room
+pub write-more : (xs ys r room new : List ℕ) (start : ℕ) → room ≡ onto (bytes xs) r → start ≡ 2 * length xs
+    → new ≡ take start room ++ onto (bytes ys) (drop start room) → new ≡ onto (bytes (xs ++ ys)) r
+write-more xs ys r room new start q e z =
+    rw (z, q) (onto-onto (bytes xs) (bytes ys) r start (length-bytes xs ∙ sym e)) ∙ ap (λ (t : List ℕ). onto t r) (sym (bytes-append xs ys))
+
 -- one more of a list of numbers
 pub write-next : (xs r room : List ℕ) (i : ℕ) → i < length xs → 2 * length xs ≤ length r → room ≡ onto (bytes (take i xs)) r
     → putWord room (2 * i) (getD xs i 0) ≡ onto (bytes (take (i + 1) xs)) r
