@@ -1,0 +1,43 @@
+-- Evidence: the stretch of the caller's job or sheet that the audit finds at fault.
+use mathlib.Core.Bool.{Bool, true, false, cond, _||_}
+use mathlib.Core.List.{List}
+use Prim.Native.Nat.{ℕ, _+_, _*_}
+use lib.Dec.{eqb}
+use denote.Ref.{RefT, now}
+use Rattle.words.specs.declared.Verdict.{Verdict}
+use Rattle.words.specs.Verdict.{numberOf, pOf}
+use Rattle.words.specs.Lent.{Stretch}
+use Rattle.job.specs.Job.{netsAt, nIn}
+use Rattle.sheet.specs.Sheet.{numbersAt, totalsAt}
+use Rattle.sheet.specs.Audit.{auditVerdict}
+
+-- in which of the two files, from which byte, how many bytes
+pub record Fault : Type 0 where
+  pub in-sheet : Bool
+  pub from : ℕ
+  pub long : ℕ
+
+abbrev pub inJob : ℕ → ℕ → Fault
+inJob from long = record { in-sheet = false; from = from; long = long }
+
+abbrev pub inSheet : ℕ → ℕ → Fault
+inSheet from long = record { in-sheet = true; from = from; long = long }
+
+-- of refusal k at p, for a job of n nets: the net of 9 and 10; the number of 22; the net's number of 23; the written total of 26
+unfoldable pub faultAt : ℕ → ℕ → ℕ → Fault
+faultAt n k p =
+    cond (eqb k 9 || eqb k 10) (inJob (netsAt + 4 * p) 4)
+    (cond (eqb k 22) (inSheet p 2)
+    (cond (eqb k 23) (inSheet (numbersAt + 2 * p) 2)
+    (cond (eqb k 26) (inSheet (totalsAt n + 2 * p) 2)
+    (inJob 0 0))))
+
+abbrev pub faultOf : ℕ → Verdict → Fault
+faultOf n v = faultAt n (numberOf v) (pOf v)
+
+-- r is that stretch of the caller's own bytes
+abbrev pub EvidenceOf : Fault → RefT (List ℕ) → RefT (List ℕ) → RefT (List ℕ) → Type 0
+EvidenceOf e job sheet r = Stretch (cond (e .in-sheet) sheet job) (e .from) (e .long) r
+
+abbrev pub Evidence : RefT (List ℕ) → RefT (List ℕ) → RefT (List ℕ) → Type 0
+Evidence job sheet r = EvidenceOf (faultOf (nIn (now job)) (auditVerdict (now job) (now sheet))) job sheet r
