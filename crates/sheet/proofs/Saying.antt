@@ -2,18 +2,19 @@
 -- Assumes nothing.
 use mathlib.Core.Path.{_≡_, refl, ap, sym, _∙_}
 use mathlib.Core.List.{List, _∷_, _++_}
-use Prim.Native.Nat.{ℕ, suc, _+_, _*_, _<_}
+use Prim.Native.Nat.{ℕ, suc, _+_, _-_, _*_, _≤_, _<_}
 use native.Mathlib.Omega.{arith}
-use lib.ListN.{length, getD, length-append, List·getD-append}
-use lib.Seq.{getD-at, getD-append-add}
-use Rattle.laws.specs.Row.{row}
+use lib.ListN.{length, getD, take, drop, length-append, List·getD-append}
+use lib.Seq.{getD-at, getD-append-add, take-at, length-take-le}
+use Rattle.laws.specs.Row.{at, row}
 use Rattle.laws.proofs.Row.{length-row, row-at}
-use Rattle.words.specs.Number.{word, bytes}
-use Rattle.words.proofs.Bytes.{length-bytes, word-bytes}
+use Rattle.words.specs.Lent.{onto}
+use Rattle.words.specs.Number.{word, bytes, numbers}
+use Rattle.words.proofs.Bytes.{length-bytes, word-bytes, numbers-row, lent-to-end}
 use Rattle.job.specs.Job.{fAt, cAt, mAt, nAt, fIn, cIn, mIn, nIn}
 use Rattle.board.specs.Job.{jobIn}
 use Rattle.board.specs.Board.{total}
-use Rattle.sheet.specs.Sheet.{totalsCountAt, sheetLength, crossbarIn, totalIn, sheetNumbers, sheetOf}
+use Rattle.sheet.specs.Sheet.{numbersAt, totalsCountAt, sheetLength, crossbarIn, totalIn, sheetNumbers, sheetOf}
 
 module _ (job : List ℕ) (a : ℕ → ℕ) where
   pub said-length : length (sheetOf job a) ≡ sheetLength (nIn job) (cIn job)
@@ -61,3 +62,18 @@ module _ (job : List ℕ) (a : ℕ → ℕ) where
       ∙ ap (λ (k : ℕ). getD (row a (nIn job) ++ (cIn job ∷ row (total (jobIn job) a) (cIn job))) k 0) (sym e)
       ∙ getD-append-add (row a (nIn job)) (cIn job ∷ row (total (jobIn job) a) (cIn job)) (suc x) 0
       ∙ row-at (total (jobIn job) a) (cIn job) x l
+
+-- the crossbar numbers of any sheet that is long enough, read in order
+pub numbers-read : (sheet : List ℕ) (n : ℕ) → totalsCountAt n ≤ length sheet → take n (numbers (drop numbersAt sheet)) ≡ row (crossbarIn sheet) n
+numbers-read sheet n h = ap (take n) (numbers-row sheet numbersAt n h) ∙ take-at (row (crossbarIn sheet) n) _ n (length-row (crossbarIn sheet) n)
+
+-- read into the front of a lent list
+pub front-read : (sheet plan new : List ℕ) (n : ℕ) → totalsCountAt n ≤ length sheet → n ≤ length plan
+    → new ≡ take (length (take n plan)) (numbers (take (length sheet - numbersAt) (drop numbersAt sheet))) → new ++ drop n plan ≡ onto (row (crossbarIn sheet) n) plan
+front-read sheet plan new n h l e =
+    rw (e, length-take-le n plan l, lent-to-end sheet numbersAt, numbers-read sheet n h, length-row (crossbarIn sheet) n)
+
+-- so the list says what the sheet says
+pub front-alike : (sheet plan : List ℕ) (n i : ℕ) → i < n → at (onto (row (crossbarIn sheet) n) plan) i ≡ crossbarIn sheet i
+front-alike sheet plan n i l =
+    List·getD-append (row (crossbarIn sheet) n) _ 0 i (omega (arith, length-row (crossbarIn sheet) n)) ∙ row-at (crossbarIn sheet) n i l

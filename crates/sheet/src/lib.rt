@@ -1,6 +1,7 @@
 // The sheet: writer, reader, audit, evidence.
 pub mod head;
 pub mod put;
+pub mod read;
 pub mod totals;
 
 // The byte of the first crossbar number.
