@@ -17,12 +17,11 @@ use Rattle.job.specs.Job.{fAt, cAt, mAt, nAt, fIn, cIn, mIn, nIn}
 use Rattle.job.specs.Check.{jobVerdict, numbersIn}
 use Rattle.board.specs.Job.{jobIn}
 use Rattle.board.specs.Board.{total, InRange, Legal, Balanced}
-use Rattle.tally.proofs.Faults.{in-range-says}
 use Rattle.board.proofs.Alike.{total-alike, spread-alike, excess-alike, in-range-alike}
 use Rattle.sheet.specs.Sheet.{numbersAt, totalsCountAt, totalsAt, sheetLength, crossbarIn, totalIn, sheetNumbers, sheetOf}
-use Rattle.sheet.specs.Audit.{differs, headVerdict, sheetVerdict, auditVerdict, Audited}
+use Rattle.sheet.specs.Audit.{differs, headVerdict, assignedVerdict, sheetVerdict, auditVerdict, Audited}
 use Rattle.sheet.proofs.Counts.{agrees, agreed}
-use Rattle.sheet.proofs.Parts.{loads-say, spread-says, totals-say}
+use Rattle.sheet.proofs.Parts.{assigned-says, spread-says, totals-say}
 use Rattle.sheet.proofs.Saying.{said-length, said-count, said-f, said-c, said-m, said-n, said-crossbar, said-totals-count, said-total}
 
 -- The audit accepts what is written for a legal balanced assignment.
@@ -46,10 +45,12 @@ module _ (job : List ℕ) (a : ℕ → ℕ) where
       then-done _ _ done
       (then-done _ _ (passes _ 21 _ (rw (eq-eqb _ _ (said-length job a))))
       (then-done _ _ head-agrees
-      (then-done _ _ (in-range-says (jobIn job) (crossbarIn (sheetOf job a)) 23 .1 (in-range-alike (jobIn job) a _ same range))
-      (then-done _ _ (loads-say (jobIn job) (crossbarIn (sheetOf job a)) .1 (sym (excess-alike (jobIn job) a _ same) ∙ legal))
+      (then-done _ _ (assigned-done (in-range-alike (jobIn job) a _ same range) (sym (excess-alike (jobIn job) a _ same) ∙ legal))
       (then-done _ _ (spread-says (jobIn job) (crossbarIn (sheetOf job a)) .1 (rw (spread-alike (jobIn job) a (crossbarIn (sheetOf job a)) same) at balanced))
-      (totals-say (jobIn job) (crossbarIn (sheetOf job a)) _ .1 (λ x l. said-total job a x l ∙ total-alike (jobIn job) a _ same x)))))))
+      (totals-say (jobIn job) (crossbarIn (sheetOf job a)) _ .1 (λ x l. said-total job a x l ∙ total-alike (jobIn job) a _ same x))))))
+    where
+      assigned-done : InRange (jobIn job) (crossbarIn (sheetOf job a)) → Legal (jobIn job) (crossbarIn (sheetOf job a)) → assignedVerdict 23 (jobIn job) (crossbarIn (sheetOf job a)) ≡ Done
+      assigned-done r l = assigned-says (jobIn job) (crossbarIn (sheetOf job a)) 23 .1 (r, l)
 
 -- What an audit that is done has shown.
 module _ (job sheet : List ℕ) (done : auditVerdict job sheet ≡ Done) where
@@ -70,7 +71,7 @@ module _ (job sheet : List ℕ) (done : auditVerdict job sheet ≡ Done) where
       let h4 = then-second _ _ h3 in
       let p1 = then-second _ _ inner in
       let p2 = then-second _ _ p1 in
-      let p3 = then-second _ _ p2 in
+      let fits = assigned-says (jobIn job) (crossbarIn sheet) 23 .0 (then-first _ _ p1) in
       record {
         passes = then-first _ _ done;
         long = eqb-true _ _ (not-false _ (passed _ 21 _ (then-first _ _ (then-second _ _ done))));
@@ -80,10 +81,10 @@ module _ (job sheet : List ℕ) (done : auditVerdict job sheet ≡ Done) where
         same-m = agreed sheet mAt (mIn job) (then-first _ _ h3);
         same-n = agreed sheet nAt (nIn job) (then-first _ _ h4);
         totals-count = agreed sheet (totalsCountAt (nIn job)) (cIn job) (then-second _ _ h4);
-        in-range = in-range-says (jobIn job) (crossbarIn sheet) 23 .0 (then-first _ _ p1);
-        legal = loads-say (jobIn job) (crossbarIn sheet) .0 (then-first _ _ p2);
-        balanced = spread-says (jobIn job) (crossbarIn sheet) .0 (then-first _ _ p3);
-        totals = totals-say (jobIn job) (crossbarIn sheet) (totalIn (nIn job) sheet) .0 (then-second _ _ p3);
+        in-range = fits .0;
+        legal = fits .1;
+        balanced = spread-says (jobIn job) (crossbarIn sheet) .0 (then-first _ _ p2);
+        totals = totals-say (jobIn job) (crossbarIn sheet) (totalIn (nIn job) sheet) .0 (then-second _ _ p2);
       }
 
 -- The audit accepts only what is written: writing what was read gives the same bytes.

@@ -16,7 +16,7 @@ use Rattle.job.specs.Job.{fAt, cAt, mAt, nAt, fIn, cIn, mIn, nIn, jobLength}
 use Rattle.job.specs.Check.{outside, rangesVerdict, netVerdict, netsVerdict, jobVerdict, numbersIn}
 use Rattle.board.specs.Job.{jobIn}
 use Rattle.sheet.specs.Sheet.{totalsCountAt, sheetLength, crossbarIn}
-use Rattle.sheet.specs.Audit.{differs, headVerdict, loadsVerdict, spreadVerdict, totalsVerdict, sheetVerdict, auditVerdict}
+use Rattle.sheet.specs.Audit.{differs, headVerdict, assignedVerdict, loadsVerdict, spreadVerdict, totalsVerdict, sheetVerdict, auditVerdict}
 use Rattle.sheet.specs.Evidence.{Fault, inJob, faultAt, faultOf}
 use Rattle.tally.specs.Check.{rangeVerdict}
 
@@ -97,13 +97,13 @@ module _ (job sheet : List ℕ) where
         differs-inside (totalsCountAt (nIn job)) (cIn job) (omega arith))))))
 
     sheet-inside : Inside job sheet (nIn job) (sheetVerdict job sheet)
-    unfolding sheetVerdict rangeVerdict loadsVerdict spreadVerdict totalsVerdict faultAt
+    unfolding sheetVerdict assignedVerdict rangeVerdict loadsVerdict spreadVerdict totalsVerdict faultAt
     sheet-inside =
         both _ _ head-inside (λ _.
-        both _ _ (inside-first job sheet (nIn job) _ (nIn job) (λ i l. inside-if job sheet (nIn job) _ 23 _ (record { inside = omega arith }))) (λ _.
-        both _ _ (inside-first job sheet (nIn job) _ (fIn job) (λ v lv. inside-first job sheet (nIn job) _ (cIn job) (λ x lx. none-if _ 24 _ refl))) (λ _.
+        both _ _ (both _ _ (inside-first job sheet (nIn job) _ (nIn job) (λ i l. inside-if job sheet (nIn job) _ 23 _ (record { inside = omega arith }))) (λ _.
+        inside-first job sheet (nIn job) _ (fIn job) (λ v lv. inside-first job sheet (nIn job) _ (cIn job) (λ x lx. none-if _ 24 _ refl)))) (λ _.
         both _ _ (inside-first job sheet (nIn job) _ (cIn job) (λ x l. none-if _ 25 _ refl)) (λ _.
-        inside-first job sheet (nIn job) _ (cIn job) (λ x l. inside-if job sheet (nIn job) _ 26 _ (record { inside = omega arith }))))))
+        inside-first job sheet (nIn job) _ (cIn job) (λ x l. inside-if job sheet (nIn job) _ 26 _ (record { inside = omega arith })))))
 
   pub audit-inside : Inside job sheet (nIn job) (auditVerdict job sheet)
   unfolding auditVerdict faultAt

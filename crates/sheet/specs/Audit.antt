@@ -37,6 +37,10 @@ headVerdict b sheet =
 unfoldable pub loadsVerdict : Job → (ℕ → ℕ) → Verdict
 loadsVerdict J a = firstRefusal (λ v. firstRefusal (λ x. refuseIf (ltb (J .width v) (load J a v x)) 24 (atLoad v x)) (J .c)) (J .f)
 
+-- 13 or 23, then 24: each net has a crossbar of the board, and no load is above m
+unfoldable pub assignedVerdict : ℕ → Job → (ℕ → ℕ) → Verdict
+assignedVerdict k J a = rangeVerdict k (J .c) a (J .n) then loadsVerdict J a
+
 -- 25: spread above 1; the lowest of c crossbars whose total is 2 or more below the greatest
 unfoldable pub spreadVerdict : (ℕ → ℕ) → ℕ → Verdict
 spreadVerdict totals c = firstRefusal (λ x. refuseIf (leb (totals x + 2) (greatest totals c)) 25 (atCrossbar x)) c
@@ -49,8 +53,7 @@ totalsVerdict totals written c = firstRefusal (λ x. refuseIf (not (eqb (written
 unfoldable pub sheetVerdict : List ℕ → List ℕ → Verdict
 sheetVerdict job sheet =
     headVerdict (numbersIn job) sheet then
-    rangeVerdict 23 (cIn job) (crossbarIn sheet) (nIn job) then
-    loadsVerdict (jobIn job) (crossbarIn sheet) then
+    assignedVerdict 23 (jobIn job) (crossbarIn sheet) then
     spreadVerdict (total (jobIn job) (crossbarIn sheet)) (cIn job) then
     totalsVerdict (total (jobIn job) (crossbarIn sheet)) (totalIn (nIn job) sheet) (cIn job)
 
@@ -60,14 +63,18 @@ auditVerdict job sheet =
     refuseIf (not (eqb (length sheet) (sheetLength (nIn job) (cIn job)))) 21 (ofLength (length sheet)) then
     sheetVerdict job sheet
 
+-- 11: fewer than n numbers, or too little room for the sheet
+unfoldable pub lentVerdict : Board → ℕ → ℕ → Verdict
+lentVerdict b plan room =
+    refuseIf (ltb plan (b .n)) 11 nowhere then
+    refuseIf (ltb room (sheetLength (b .n) (b .c))) 11 nowhere
+
 -- the sheet writer: 1 to 11, then 13, 24, 25. `room` is how many bytes were lent
 unfoldable pub writeSheetVerdict : List ℕ → List ℕ → ℕ → Verdict
 writeSheetVerdict job plan room =
     jobVerdict job then
-    refuseIf (ltb (length plan) (nIn job)) 11 nowhere then
-    refuseIf (ltb room (sheetLength (nIn job) (cIn job))) 11 nowhere then
-    rangeVerdict 13 (cIn job) (at plan) (nIn job) then
-    loadsVerdict (jobIn job) (at plan) then
+    lentVerdict (numbersIn job) (length plan) room then
+    assignedVerdict 13 (jobIn job) (at plan) then
     spreadVerdict (total (jobIn job) (at plan)) (cIn job)
 
 -- the sheet reader: the audit's refusals, then 11. `room` is how many numbers were lent
