@@ -76,6 +76,15 @@ module _ (t : ℕ → Bool) where
       rw (le-ltb (firstWhere t i) i (omega arith))
       (by-test (t i) (λ h. rw h (first-where-here i (i + 1) e h (omega arith))) (λ h. rw h (first-where-on i e h))))
 
+  -- a search that ends early, at i, finds the first of all or stops at i
+  pub first-where-within : (i n : ℕ) → i ≤ n → firstWhere t i ≡ min i (firstWhere t n)
+  first-where-within i n h =
+      dite (decLt (firstWhere t i) i) (λ l. omega (arith, first-where-kept i n l h))
+      (λ nl.
+      dite (decLt (firstWhere t n) i)
+      (λ l. absurd (true≢false (sym (first-where-holds n (omega arith)) ∙ first-where-before i (firstWhere t n) (omega arith))))
+      (λ nk. omega (arith, first-where-at-most i)))
+
   -- some number below n passes
   pub somewhere-true : (k n : ℕ) → k < n → t k ≡ true → somewhere t n ≡ true
   somewhere-true k n l e =
@@ -116,6 +125,14 @@ module _ (t : ℕ → Bool) {P : ℕ → Type 0} (says : (k : ℕ) → Says (t k
     λ e. first-where-lowest n (ltb-true (firstWhere t n) n e),
     λ w. lt-ltb (firstWhere t n) n (omega (arith, lowest-is-first n w, w .below)),
   )
+
+-- a loop for the first number where f is below g
+module _ (f g : ℕ → ℕ) where
+  pub first-less-here : (i n : ℕ) → firstWhere (λ k. ltb (f k) (g k)) i ≡ i → f i < g i → i < n → firstWhere (λ k. ltb (f k) (g k)) n ≡ i
+  first-less-here i n e h l = first-where-here (λ k. ltb (f k) (g k)) i n e (lt-ltb (f i) (g i) h) l
+
+  pub first-less-on : (i : ℕ) → firstWhere (λ k. ltb (f k) (g k)) i ≡ i → g i ≤ f i → firstWhere (λ k. ltb (f k) (g k)) (i + 1) ≡ i + 1
+  first-less-on i e h = first-where-on (λ k. ltb (f k) (g k)) i e (le-ltb (f i) (g i) h)
 
 -- two tests
 module _ (s t : ℕ → Bool) where

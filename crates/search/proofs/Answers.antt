@@ -35,7 +35,7 @@ record Three (J : Job) (a : ℕ → ℕ) (v A B : ℕ) : Type 0 where
   room : roomOf J a v ≡ B
 
 module _ (J : Job) (a : ℕ → ℕ) where
-  fpga-at-most : fpgaOf J a ≤ J .f
+  pub fpga-at-most : fpgaOf J a ≤ J .f
   unfolding fpgaOf
   fpga-at-most = first-where-at-most (overFpga J a) (J .f)
 

@@ -2,4 +2,5 @@
 pub mod Tests
 pub mod Answers
 pub mod Columns
+pub mod Counters
 pub mod Alike

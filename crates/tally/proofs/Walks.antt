@@ -1,4 +1,4 @@
--- The nets counted one after the other: degrees, loads at a crossbar, totals.
+-- The nets counted one after the other: degrees, loads at a crossbar, loads of an FPGA, totals.
 -- Assumes nothing.
 use mathlib.Core.Path.{_≡_, ap, sym, _∙_}
 use mathlib.Core.List.{List}
@@ -15,7 +15,7 @@ use Rattle.job.specs.declared.Board.{Board}
 use Rattle.job.specs.Job.{firstIn, secondIn}
 use Rattle.job.specs.Check.{Passed}
 use Rattle.board.specs.Job.{Job, jobIn}
-use Rattle.board.specs.Board.{endsAt, degree, load, total}
+use Rattle.board.specs.Board.{endsAt, degree, load, total, InRange}
 use Rattle.board.proofs.Loads.{ends-at-most-two}
 
 -- what net i counts at FPGA v for the loads of crossbar x, and at crossbar x for the totals
@@ -79,6 +79,38 @@ module _ (J : Job) {count : List ℕ} (i : ℕ) where
     pub loads-all : i ≡ J .n → Counted count 256 (λ v. load J a v x)
     unfolding load loadBy
     loads-all e = rw e at s
+
+-- the ends of a checked net at FPGA v: at its first, or not there and as the second has it
+module _ (job : List ℕ) (b : Board) (p : Passed job b) (v i : ℕ) (l : i < b .n) where
+  pub ends-first : v ≡ firstIn job i → endsAt (jobIn job) v i ≡ 1
+  unfolding endsAt
+  ends-first e = omega (arith, when-here (firstIn job i) 1 v (sym e), when-else (secondIn job i) 1 v (λ q. p .nets i l .apart (sym e ∙ sym q)))
+
+  pub ends-second : firstIn job i ≢ v → endsAt (jobIn job) v i ≡ when (eqb (secondIn job i) v) 1
+  unfolding endsAt
+  ends-second ne = omega (arith, when-else (firstIn job i) 1 v ne)
+
+-- the loads of FPGA v at all crossbars
+module _ (J : Job) (a : ℕ → ℕ) (v : ℕ) {loads : List ℕ} (i : ℕ) (s : Walked (λ x. loadBy J a x v) 128 loads i) where
+  pub own-passes : endsAt J v i ≡ 0 → Walked (λ x. loadBy J a x v) 128 loads (i + 1)
+  unfolding loadBy
+  own-passes e = walk-passes (λ x. loadBy J a x v) 128 i s (λ x _. omega (arith, when-at-most (eqb (a i) x) (endsAt J v i)))
+
+  module _ (x : ℕ) (h : x < 128) where
+    pub own-fits : i < 4096 → at loads x + 1 < 65536
+    own-fits low = omega (arith, walk-at-most (λ y. loadBy J a y v) 128 i s 2 (λ y j. load-by-at-most J a y v j) x h)
+
+    pub own-counts : x ≡ a i → endsAt J v i ≡ 1 → Walked (λ x. loadBy J a x v) 128 (bump loads x) (i + 1)
+    unfolding loadBy
+    own-counts e one = walk-counts (λ y. loadBy J a y v) 128 i s x h (λ y _. rw (e, one))
+
+  pub own-all : i ≡ J .n → Counted loads 128 (load J a v)
+  unfolding load loadBy
+  own-all e = rw e at s
+
+-- the crossbar of a net in range is one of the 128
+pub crossbar-low : (job : List ℕ) (b : Board) → Passed job b → (a : ℕ → ℕ) → InRange (jobIn job) a → (i : ℕ) → i < b .n → (x : ℕ) → x ≡ a i → x < 128
+crossbar-low job b p a h i l x e = omega (arith, h i (omega (arith, p .n)), p .c, p .ranged .c-high)
 
 module _ (a : ℕ → ℕ) {count : List ℕ} (i x : ℕ) (e : x ≡ a i) (h : x < 128) (s : Walked (totalBy a) 128 count i) where
   pub totals-fit : i < 4096 → at count x + 1 < 65536

@@ -2,11 +2,12 @@
 ghost use mathlib.Core.Path.{_≡_};
 ghost use Prim.Native.Nat.{ℕ, _≤_, _<_};
 ghost use lib.ListN.{length};
+ghost use Rattle.laws.specs.Sum.{when};
 ghost use Rattle.laws.specs.Row.{at};
 ghost use Rattle.laws.specs.Count.{Counted};
 ghost use Rattle.job.specs.Check.{Passed};
 ghost use Rattle.board.specs.Job.{Job, jobIn};
-ghost use Rattle.board.specs.Board.{degree, load, total};
+ghost use Rattle.board.specs.Board.{endsAt, degree, load, total, InRange};
 use job::Board;
 use job::read::first_end;
 use job::read::second_end;
@@ -30,6 +31,36 @@ pub fn loads_on(job: &[u8], b: Board, a: &[u16], x: usize) -> [u16; 256]
         }
     }
     count
+}
+
+// Net i ends at FPGA v; at one end only, since a checked net has two different ends.
+fn ends_at(job: &[u8], b: Board, v: usize, i: usize) -> bool
+    requires { ⌜ (Passed (now job) b) × (i < b .n) ⌝ }
+    ensures { λ r. ⌜ endsAt (jobIn (now (job .entry))) v i ≡ when r 1 ⌝ }
+{
+    if first_end(job, b.start, i) == v {
+        return true;
+    }
+    second_end(job, b.start, i) == v
+}
+
+// The loads of FPGA v at all crossbars.
+pub fn loads_of(job: &[u8], b: Board, a: &[u16], v: usize) -> [u16; 128]
+    requires { ⌜ (Passed (now job) b) × (b .n ≤ length (now a)) ⌝ }
+    requires { ⌜ InRange (jobIn (now job)) (at (now a)) ⌝ }
+    ensures { λ r. ⌜ Counted r 128 (load (jobIn (now (job .entry))) (at (now (a .entry))) v) ⌝ }
+{
+    let mut loads = [0u16; 128];
+    let mut i: usize = 0;
+    while i < b.n {
+        let net = i;
+        i += 1;
+        if ends_at(job, b, v, net) {
+            let x = wide(a[net]);
+            loads[x] += 1;
+        }
+    }
+    loads
 }
 
 // The degrees of all FPGAs.
