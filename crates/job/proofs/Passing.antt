@@ -14,8 +14,9 @@ use Rattle.words.specs.declared.Verdict.the-variants.{Done, Refused}
 use Rattle.words.specs.Verdict.{firstRefusal}
 use Rattle.words.specs.Number.{word}
 use Rattle.words.proofs.Order.{then-first, then-second, passed, first-done}
+use Rattle.job.specs.declared.Checked.{Checked}
 use Rattle.job.specs.Job.{netsAt, jobLength, fIn, cIn, mIn, nIn, firstIn, secondIn}
-use Rattle.job.specs.Check.{outside, rangesVerdict, netVerdict, netsVerdict, jobVerdict, numbersIn, noBoard, boardBy, boardOf, Ranged, Joins, Passed}
+use Rattle.job.specs.Check.{outside, rangesVerdict, netVerdict, netsVerdict, jobVerdict, numbersIn, noBoard, boardBy, boardOf, checkedOf, Ranged, Joins, Passed}
 
 or-false : (a b : Bool) → (a || b) ≡ false → (a ≡ false) × (b ≡ false)
 or-false true b h = absurd (true≢false h)
@@ -119,3 +120,9 @@ start-inside job = go (jobVerdict job) refl
     go : (v : Verdict) → jobVerdict job ≡ v → boardBy v job .start ≤ length job
     go Done h = head job h
     go (Refused r) h = omega arith
+
+-- the check's answer, where it is done
+pub checked-passed : (job : List ℕ) (k : Checked) → k ≡ checkedOf job → k .verdict ≡ Done → Passed job (k .board)
+checked-passed job k e done =
+    let v : jobVerdict job ≡ Done = sym (ap (λ (c : Checked). c .verdict) e) ∙ done in
+    rw (ap (λ (c : Checked). c .board) e, board-done job v) (passes job v)

@@ -5,15 +5,13 @@
 // FPGA the ends are shared as the rule asks (how, and why an even width is needed, stands at the top of that crate).
 // The labels are then written back as crossbars by a second walk over the nets, which finds the same nets in the same order:
 // the nets need no list of their own.
-// `split` wants an even number of nets. If there is one too few, a dummy net is added, both ends at an FPGA that no board has,
-// so that no load counts it. The dummy's label becomes that of y: without the dummy x has one net more than y, as the rule allows.
+// `split` wants an even number of nets. Where it is odd, a dummy net is added, both ends at an FPGA that no board has, so that
+// no load counts it. The dummy's label becomes that of y: without the dummy x has one net more than y, as the rule allows.
 ghost use mathlib.Core.Path.{_≡_};
-ghost use Prim.Native.Nat.{_+_, _*_, _≤_, _<_};
+ghost use Prim.Native.Nat.{_≤_};
 ghost use lib.ListN.{length};
-ghost use Rattle.job.specs.Job.{firstIn, secondIn};
 ghost use Rattle.board.specs.Rule.{onTwoTest};
 ghost use Rattle.scratch.specs.Scratch.{mostNets, scratchLong};
-ghost use Rattle.split.specs.Split.{labelOf};
 ghost use Rattle.recolour.specs.Recolour.{Asked, RecolouredIn};
 ghost use Rattle.recolour.specs.Steps.{place, Counted, evened, withEnds, Places, Room, Collected, Gathered, labelForY, crossbarBy, Labelled, Written};
 use job::Board;
