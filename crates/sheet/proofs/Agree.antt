@@ -19,7 +19,7 @@ use Rattle.board.specs.Job.{jobIn}
 use Rattle.board.specs.Board.{total, InRange, Legal, Balanced}
 use Rattle.board.proofs.Alike.{total-alike, spread-alike, excess-alike, in-range-alike}
 use Rattle.sheet.specs.Sheet.{numbersAt, totalsCountAt, totalsAt, sheetLength, crossbarIn, totalIn, sheetNumbers, sheetOf}
-use Rattle.sheet.specs.Audit.{differs, headVerdict, assignedVerdict, sheetVerdict, auditVerdict, Audited}
+use Rattle.sheet.specs.Audit.{differs, headVerdict, assignedVerdict, numbersVerdict, againstVerdict, auditVerdict, Audited}
 use Rattle.sheet.proofs.Counts.{agrees, agreed}
 use Rattle.sheet.proofs.Parts.{assigned-says, spread-says, totals-say}
 use Rattle.sheet.proofs.Saying.{said-length, said-count, said-f, said-c, said-m, said-n, said-crossbar, said-totals-count, said-total}
@@ -40,7 +40,7 @@ module _ (job : List ℕ) (a : ℕ → ℕ) where
   same i l = sym (said-crossbar job a i l)
 
   pub written-audits : jobVerdict job ≡ Done → InRange (jobIn job) a → Legal (jobIn job) a → Balanced (jobIn job) a → auditVerdict job (sheetOf job a) ≡ Done
-  unfolding auditVerdict sheetVerdict
+  unfolding auditVerdict againstVerdict numbersVerdict
   written-audits done range legal balanced =
       then-done _ _ done
       (then-done _ _ (passes _ 21 _ (rw (eq-eqb _ _ (said-length job a))))
@@ -54,24 +54,23 @@ module _ (job : List ℕ) (a : ℕ → ℕ) where
 
 -- What an audit that is done has shown.
 module _ (job sheet : List ℕ) (done : auditVerdict job sheet ≡ Done) where
-  inner : sheetVerdict job sheet ≡ Done
-  unfolding auditVerdict
-  inner = then-second _ _ (then-second _ _ done)
+  inner : numbersVerdict job sheet ≡ Done
+  unfolding auditVerdict againstVerdict
+  inner = then-second _ _ (then-second _ _ (then-second _ _ done))
 
   heads : headVerdict (numbersIn job) sheet ≡ Done
-  unfolding sheetVerdict
-  heads = then-first _ _ inner
+  unfolding auditVerdict againstVerdict
+  heads = then-first _ _ (then-second _ _ (then-second _ _ done))
 
   pub audited : Audited job sheet
-  unfolding auditVerdict sheetVerdict headVerdict
+  unfolding auditVerdict againstVerdict numbersVerdict headVerdict
   audited =
       let h1 = then-second _ _ heads in
       let h2 = then-second _ _ h1 in
       let h3 = then-second _ _ h2 in
       let h4 = then-second _ _ h3 in
-      let p1 = then-second _ _ inner in
-      let p2 = then-second _ _ p1 in
-      let fits = assigned-says (jobIn job) (crossbarIn sheet) 23 .0 (then-first _ _ p1) in
+      let p2 = then-second _ _ inner in
+      let fits = assigned-says (jobIn job) (crossbarIn sheet) 23 .0 (then-first _ _ inner) in
       record {
         passes = then-first _ _ done;
         long = eqb-true _ _ (not-false _ (passed _ 21 _ (then-first _ _ (then-second _ _ done))));

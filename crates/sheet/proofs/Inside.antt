@@ -16,7 +16,7 @@ use Rattle.job.specs.Job.{fAt, cAt, mAt, nAt, fIn, cIn, mIn, nIn, jobLength}
 use Rattle.job.specs.Check.{outside, rangesVerdict, netVerdict, netsVerdict, jobVerdict, numbersIn}
 use Rattle.board.specs.Job.{jobIn}
 use Rattle.sheet.specs.Sheet.{totalsCountAt, sheetLength, crossbarIn}
-use Rattle.sheet.specs.Audit.{differs, headVerdict, assignedVerdict, loadsVerdict, spreadVerdict, totalsVerdict, sheetVerdict, auditVerdict}
+use Rattle.sheet.specs.Audit.{differs, headVerdict, assignedVerdict, loadsVerdict, spreadVerdict, totalsVerdict, numbersVerdict, againstVerdict, auditVerdict}
 use Rattle.sheet.specs.Evidence.{Fault, inJob, faultAt, faultOf}
 use Rattle.tally.specs.Check.{rangeVerdict}
 
@@ -96,8 +96,8 @@ module _ (job sheet : List ℕ) where
         both _ _ (differs-inside nAt (nIn job) (omega arith)) (λ _.
         differs-inside (totalsCountAt (nIn job)) (cIn job) (omega arith))))))
 
-    sheet-inside : Inside job sheet (nIn job) (sheetVerdict job sheet)
-    unfolding sheetVerdict assignedVerdict rangeVerdict loadsVerdict spreadVerdict totalsVerdict faultAt
+    sheet-inside : Inside job sheet (nIn job) (headVerdict (numbersIn job) sheet then numbersVerdict job sheet)
+    unfolding numbersVerdict assignedVerdict rangeVerdict loadsVerdict spreadVerdict totalsVerdict faultAt
     sheet-inside =
         both _ _ head-inside (λ _.
         both _ _ (both _ _ (inside-first job sheet (nIn job) _ (nIn job) (λ i l. inside-if job sheet (nIn job) _ 23 _ (record { inside = omega arith }))) (λ _.
@@ -106,7 +106,7 @@ module _ (job sheet : List ℕ) where
         inside-first job sheet (nIn job) _ (cIn job) (λ x l. inside-if job sheet (nIn job) _ 26 _ (record { inside = omega arith })))))
 
   pub audit-inside : Inside job sheet (nIn job) (auditVerdict job sheet)
-  unfolding auditVerdict faultAt
+  unfolding auditVerdict againstVerdict faultAt
   audit-inside =
       both _ _ job-inside (λ _.
       both _ _ (none-if _ 21 _ refl) (λ long. sheet-inside (eqb-true _ _ (not-false _ (passed _ 21 _ long)))))

@@ -49,19 +49,23 @@ spreadVerdict totals c = firstRefusal (λ x. refuseIf (leb (totals x + 2) (great
 unfoldable pub totalsVerdict : (ℕ → ℕ) → (ℕ → ℕ) → ℕ → Verdict
 totalsVerdict totals written c = firstRefusal (λ x. refuseIf (not (eqb (written x) (totals x))) 26 (atCrossbar x)) c
 
--- the audit of a sheet of the right length, for a job that passed its check
-unfoldable pub sheetVerdict : List ℕ → List ℕ → Verdict
-sheetVerdict job sheet =
-    headVerdict (numbersIn job) sheet then
+-- 23 to 26, by the sheet's own numbers
+unfoldable pub numbersVerdict : List ℕ → List ℕ → Verdict
+numbersVerdict job sheet =
     assignedVerdict 23 (jobIn job) (crossbarIn sheet) then
     spreadVerdict (total (jobIn job) (crossbarIn sheet)) (cIn job) then
     totalsVerdict (total (jobIn job) (crossbarIn sheet)) (totalIn (nIn job) sheet) (cIn job)
 
-unfoldable pub auditVerdict : List ℕ → List ℕ → Verdict
-auditVerdict job sheet =
-    jobVerdict job then
+-- 21 to 26
+unfoldable pub againstVerdict : List ℕ → List ℕ → Verdict
+againstVerdict job sheet =
     refuseIf (not (eqb (length sheet) (sheetLength (nIn job) (cIn job)))) 21 (ofLength (length sheet)) then
-    sheetVerdict job sheet
+    headVerdict (numbersIn job) sheet then
+    numbersVerdict job sheet
+
+-- the audit of a sheet against a job
+unfoldable pub auditVerdict : List ℕ → List ℕ → Verdict
+auditVerdict job sheet = jobVerdict job then againstVerdict job sheet
 
 -- 11: fewer than n numbers, or too little room for the sheet
 unfoldable pub lentVerdict : Board → ℕ → ℕ → Verdict
@@ -69,13 +73,18 @@ lentVerdict b plan room =
     refuseIf (ltb plan (b .n)) 11 nowhere then
     refuseIf (ltb room (sheetLength (b .n) (b .c))) 11 nowhere
 
+-- 13, 24 and 25: an assignment that is fit for a sheet
+unfoldable pub fitVerdict : List ℕ → (ℕ → ℕ) → Verdict
+fitVerdict job a =
+    assignedVerdict 13 (jobIn job) a then
+    spreadVerdict (total (jobIn job) a) (cIn job)
+
 -- the sheet writer: 1 to 11, then 13, 24, 25. `room` is how many bytes were lent
 unfoldable pub writeSheetVerdict : List ℕ → List ℕ → ℕ → Verdict
 writeSheetVerdict job plan room =
     jobVerdict job then
     lentVerdict (numbersIn job) (length plan) room then
-    assignedVerdict 13 (jobIn job) (at plan) then
-    spreadVerdict (total (jobIn job) (at plan)) (cIn job)
+    fitVerdict job (at plan)
 
 -- the sheet reader: the audit's refusals, then 11. `room` is how many numbers were lent
 unfoldable pub readSheetVerdict : List ℕ → List ℕ → ℕ → Verdict

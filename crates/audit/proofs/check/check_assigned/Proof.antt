@@ -1,3 +1,4 @@
+-- `audit::check::check_assigned` meets its contract.
 use Rattle.sheet.specs.Audit.{assignedVerdict}
 use Rattle.tally.proofs.Faults.{range-says}
 use Rattle.words.proofs.Order.{then-refused, then-next}
@@ -6,20 +7,13 @@ use mathlib.Core.Path.{_≡_, sym, _∙_, ap}
 use borrow.Author.Needs.{needs}
 use Rattle.audit.proofs.check.check_assigned.Statement.{statement}
 use Rattle.audit.proofs.check.check_assigned.Tie as tie
-use Rattle.audit.proofs.check.check_assigned.Reads as reads
-use Rattle.audit.proofs.check.check_assigned.Lts as lts
-use Rattle.audit.proofs.check.check_loads.Reads as check-loads-reads
-use Rattle.tally.proofs.check.check_range.Reads as check-range-reads
 
--- src/check.rt:37:9
 check-range-requires : tie.Need-check-range-requires
 check-range-requires c κs = search needs
 
--- src/check.rt:39:9
 enum-told : tie.Need-enum-told
 enum-told c = search needs
 
--- src/check.rt:39:9
 returns : tie.Need-returns
 unfolding assignedVerdict
 returns c = let p = c .before .before .before .before .before .pre .0 in
@@ -29,12 +23,10 @@ returns c = let p = c .before .before .before .before .before .pre .0 in
 enum-told-2 : tie.Need-enum-told-2
 enum-told-2 c = search needs
 
--- src/check.rt:41:5
 check-loads-requires : tie.Need-check-loads-requires
 check-loads-requires c κs = let p = c .before .before .before .before .before .pre .0 in
     (c .before .before .before .before .before .pre, range-says _ _ _ _ .0 (sym (rw (p .c, p .n) at (c .before .before .check-range .ensures)) ∙ c .enum-told2 .given .1))
 
--- src/check.rt:33:1
 returns-2 : tie.Need-returns-2
 unfolding assignedVerdict
 returns-2 c = let p = c .before .before .before .before .before .before .pre .0 in

@@ -1,3 +1,4 @@
+-- `audit::check::check_lent` meets its contract.
 use Rattle.sheet.specs.Sheet.{sheetLength}
 use Rattle.sheet.specs.Audit.{lentVerdict}
 use Rattle.words.specs.Verdict.{refuseIf, _then_}
@@ -7,35 +8,25 @@ use mathlib.Core.Path.{_≡_, sym, _∙_}
 use borrow.Author.Needs.{needs}
 use Rattle.audit.proofs.check.check_lent.Statement.{statement}
 use Rattle.audit.proofs.check.check_lent.Tie as tie
-use Rattle.audit.proofs.check.check_lent.Reads as reads
-use Rattle.audit.proofs.check.check_lent.Lts as lts
-use Rattle.sheet.proofs.sheet_length.Reads as sheet-length-reads
-use Rattle.words.proofs.refuse.Reads as refuse-reads
 
--- src/check.rt:50:9
 refuse-requires : tie.Need-refuse-requires
 refuse-requires c κs = search needs
 
--- src/check.rt:50:9
 returns : tie.Need-returns
 unfolding lentVerdict refuseIf _then_
 returns c = c .refuse .ensures ∙ sym (simp (lt-ltb _ _ (c .before .if1 .taken)))
 
--- src/check.rt:52:15
 sheet-length-requires : tie.Need-sheet-length-requires
 sheet-length-requires c κs = search needs
 
--- src/check.rt:53:9
 refuse-requires-2 : tie.Need-refuse-requires-2
 refuse-requires-2 c κs = search needs
 
--- src/check.rt:53:9
 returns-2 : tie.Need-returns-2
 unfolding lentVerdict refuseIf _then_
 returns-2 c = let a = c .before .before .before .before .before .args in
     c .refuse2 .ensures ∙ sym (simp (le-ltb _ _ (c .before .before .before .if1 .left), lt-ltb (a .room) (sheetLength (a .b .n) (a .b .c)) (omega arith)))
 
--- src/check.rt:45:1
 returns-3 : tie.Need-returns-3
 unfolding lentVerdict refuseIf _then_
 returns-3 c = let a = c .before .before .before .before .args in

@@ -1,34 +1,25 @@
+-- `audit::check::check_loads` meets its contract.
 use Rattle.sheet.proofs.Over.{settled-loads, over-loads}
 use mathlib.Core.Path.{_≡_, sym, _∙_}
 use borrow.Author.Needs.{needs}
 use Rattle.audit.proofs.check.check_loads.Statement.{statement}
 use Rattle.audit.proofs.check.check_loads.Tie as tie
-use Rattle.audit.proofs.check.check_loads.Reads as reads
-use Rattle.audit.proofs.check.check_loads.Lts as lts
-use Rattle.search.proofs.search.Reads as search-reads
-use Rattle.words.proofs.refuse.Reads as refuse-reads
 
--- src/check.rt:25:9
 search-requires : tie.Need-search-requires
 search-requires c κs = search needs
 
--- src/check.rt:27:27
 enum-told : tie.Need-enum-told
 enum-told c = search needs
 
--- src/check.rt:28:21
 enum-known-found : tie.Need-enum-known-found
 enum-known-found c = search needs
 
--- src/check.rt:28:33
 refuse-requires : tie.Need-refuse-requires
 refuse-requires c κs = search needs
 
--- src/check.rt:20:1
 returns : tie.Need-returns
 returns c = sym (settled-loads _ _ (sym (c .before .before .search .ensures) ∙ c .enum-told .given .1))
 
--- src/check.rt:20:1
 returns-2 : tie.Need-returns-2
 returns-2 c = c .refuse .ensures ∙ sym (over-loads _ _ _ _ _ (sym (c .before .before .before .before .search .ensures) ∙ c .before .before .found .given .1))
 

@@ -1,0 +1,2 @@
+-- The totals that were counted, and the numbers that were read, say what the definitions ask.
+pub mod Counting
