@@ -25,9 +25,11 @@ use Rattle.board.specs.Job.{jobIn}
 use Rattle.board.specs.Board.{total, Alike}
 use Rattle.board.proofs.Alike.{total-alike}
 use Rattle.audit.specs.Answer.{auditedOf}
-use Rattle.sheet.specs.Sheet.{sheetLength, totalsAt, crossbarIn, totalIn, sheetBytes, sheetOf}
+use Rattle.sheet.specs.Sheet.{sheetLength, totalsCountAt, totalsAt, crossbarIn, totalIn, sheetBytes, sheetOf}
 use Rattle.sheet.specs.Audit.{lentVerdict, againstVerdict, auditVerdict, assignedVerdict, spreadVerdict, totalsVerdict}
 use Rattle.sheet.proofs.Parts.{assigned-says, spread-same, totals-same}
+use Rattle.sheet.proofs.Agree.{audited}
+use Rattle.job.proofs.Passing.{board-done}
 use Rattle.sheet.proofs.Putting.{bytes-are}
 use Rattle.sheet.proofs.Saying.{front-alike}
 
@@ -87,3 +89,11 @@ module _ (job sheet : List ℕ) where
   pub audited-next : jobVerdict job ≡ Done → (v : Verdict) (b : Board) → v ≡ againstVerdict job sheet → b ≡ boardOf job → _≡_ {A = Checked} (record { verdict = v; board = b }) (auditedOf job sheet)
   unfolding auditVerdict
   audited-next done v b e d = rw (e, d) (ap (λ (v : Verdict). record { verdict = v; board = boardOf job }) (sym (then-next _ _ done)))
+
+  -- what an audit that is done says of the job's nets and the sheet's numbers
+  module _ (done : auditVerdict job sheet ≡ Done) where
+    pub its-nets : boardOf job .n ≡ nIn job
+    its-nets = ap (λ (b : Board). b .n) (board-done job (audited job sheet done .passes))
+
+    pub its-numbers : totalsCountAt (nIn job) ≤ length sheet
+    its-numbers = omega (arith, audited job sheet done .long)

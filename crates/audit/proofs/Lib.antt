@@ -1,2 +1,3 @@
 -- The totals that were counted, and the numbers that were read, say what the definitions ask.
 pub mod Counting
+pub mod Pointing

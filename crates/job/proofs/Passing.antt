@@ -122,6 +122,15 @@ start-inside job = go (jobVerdict job) refl
     go (Refused r) h = omega arith
 
 -- the check's answer, where it is done
+-- nor are there ever more nets than the largest job has
+pub nets-few : (job : List ℕ) → boardOf job .n ≤ 4096
+unfolding boardOf
+nets-few job = go (jobVerdict job) refl
+  where
+    go : (v : Verdict) → jobVerdict job ≡ v → boardBy v job .n ≤ 4096
+    go Done h = passes job h .ranged .n-high
+    go (Refused r) h = omega arith
+
 pub checked-passed : (job : List ℕ) (k : Checked) → k ≡ checkedOf job → k .verdict ≡ Done → Passed job (k .board)
 checked-passed job k e done =
     let v : jobVerdict job ≡ Done = sym (ap (λ (c : Checked). c .verdict) e) ∙ done in

@@ -13,17 +13,19 @@ use Rattle.words.specs.declared.Verdict.the-variants.{Done, Refused}
 use Rattle.words.specs.Verdict.{refuse, refuseIf, _then_, firstRefusal, placeP}
 use Rattle.words.proofs.Order.{passed}
 use Rattle.job.specs.Job.{fAt, cAt, mAt, nAt, fIn, cIn, mIn, nIn, jobLength}
-use Rattle.job.specs.Check.{outside, rangesVerdict, netVerdict, netsVerdict, jobVerdict, numbersIn}
+use Rattle.job.specs.Check.{rangesVerdict, netVerdict, netsVerdict, jobVerdict, numbersIn, boardOf}
+use Rattle.job.specs.declared.Board.{Board}
+use Rattle.job.proofs.Passing.{board-done}
 use Rattle.board.specs.Job.{jobIn}
 use Rattle.sheet.specs.Sheet.{totalsCountAt, sheetLength, crossbarIn}
 use Rattle.sheet.specs.Audit.{differs, headVerdict, assignedVerdict, loadsVerdict, spreadVerdict, totalsVerdict, numbersVerdict, againstVerdict, auditVerdict}
-use Rattle.sheet.specs.Evidence.{Fault, inJob, faultAt, faultOf}
+use Rattle.sheet.specs.Evidence.{inJob, faultAt, faultOf}
 use Rattle.tally.specs.Check.{rangeVerdict}
 
 module _ (job sheet : List ℕ) (n : ℕ) where
   -- the fault of a verdict lies inside
   pub record Inside (v : Verdict) : Type 0 where
-    pub inside : faultOf n v .from + faultOf n v .long ≤ length (cond (faultOf n v .in-sheet) sheet job)
+    pub inside : faultOf n v .start + faultOf n v .long ≤ length (cond (faultOf n v .sheet) sheet job)
 
   inside-done : Inside Done
   unfolding faultAt
@@ -44,34 +46,31 @@ module _ (job sheet : List ℕ) (n : ℕ) where
   inside-first g zero h = inside-done
   inside-first g (suc k) h = inside-then (firstRefusal g k) (g k) (inside-first g k (λ i l. h i (omega arith))) (λ _. h k (omega arith))
 
-module _ (job sheet : List ℕ) where
+module _ (job sheet : List ℕ) (n : ℕ) where
   -- the refusals that point at no stretch
-  inside-none : (k : ℕ) (place : Place) → faultAt (nIn job) k (placeP place) ≡ inJob 0 0 → Inside job sheet (nIn job) (refuse k place)
-  inside-none k place e = record { inside = rw e (omega arith) }
+  none-if : (t : Bool) (k : ℕ) (place : Place) → faultAt n k (placeP place) ≡ inJob 0 0 → Inside job sheet n (refuseIf t k place)
+  none-if t k place e = inside-if job sheet n t k place (record { inside = rw e (omega arith) })
 
-  none-if : (t : Bool) (k : ℕ) (place : Place) → faultAt (nIn job) k (placeP place) ≡ inJob 0 0 → Inside job sheet (nIn job) (refuseIf t k place)
-  none-if t k place e = inside-if job sheet (nIn job) t k place (inside-none k place e)
+  both : (u v : Verdict) → Inside job sheet n u → (u ≡ Done → Inside job sheet n v) → Inside job sheet n (u then v)
+  both = inside-then job sheet n
 
-  both : (u v : Verdict) → Inside job sheet (nIn job) u → (u ≡ Done → Inside job sheet (nIn job) v) → Inside job sheet (nIn job) (u then v)
-  both = inside-then job sheet (nIn job)
-
-  ranges-inside : (f c m n : ℕ) → Inside job sheet (nIn job) (rangesVerdict f c m n)
+  ranges-inside : (f c m k : ℕ) → Inside job sheet n (rangesVerdict f c m k)
   unfolding rangesVerdict faultAt
-  ranges-inside f c m n =
+  ranges-inside f c m k =
       both _ _ (none-if _ 3 _ refl) (λ _.
       both _ _ (none-if _ 4 _ refl) (λ _.
       both _ _ (none-if _ 5 _ refl) (λ _.
       both _ _ (none-if _ 6 _ refl) (λ _. none-if _ 7 _ refl))))
 
-  nets-inside : (f : ℕ) (first second : ℕ → ℕ) → jobLength (nIn job) ≤ length job → Inside job sheet (nIn job) (netsVerdict f first second (nIn job))
+  nets-inside : (f : ℕ) (first second : ℕ → ℕ) (k : ℕ) → jobLength k ≤ length job → Inside job sheet n (netsVerdict f first second k)
   unfolding netsVerdict netVerdict faultAt
-  nets-inside f first second h =
-      inside-first job sheet (nIn job) _ (nIn job) (λ i l.
-      both _ _ (inside-if job sheet (nIn job) _ 9 _ (record { inside = omega arith })) (λ _.
-      both _ _ (inside-if job sheet (nIn job) _ 9 _ (record { inside = omega arith })) (λ _.
-      inside-if job sheet (nIn job) _ 10 _ (record { inside = omega arith }))))
+  nets-inside f first second k h =
+      inside-first job sheet n _ k (λ i l.
+      both _ _ (inside-if job sheet n _ 9 _ (record { inside = omega arith })) (λ _.
+      both _ _ (inside-if job sheet n _ 9 _ (record { inside = omega arith })) (λ _.
+      inside-if job sheet n _ 10 _ (record { inside = omega arith }))))
 
-  job-inside : Inside job sheet (nIn job) (jobVerdict job)
+  job-inside : Inside job sheet n (jobVerdict job)
   unfolding jobVerdict faultAt
   job-inside =
       both _ _ (none-if _ 1 _ refl) (λ _.
@@ -79,14 +78,14 @@ module _ (job sheet : List ℕ) where
       both _ _ (ranges-inside _ _ _ _) (λ _.
       both _ _ (none-if _ 1 _ refl) (λ long.
       both _ _ (none-if _ 8 _ refl) (λ _.
-      nets-inside _ _ _ (ltb-false (length job) (jobLength (nIn job)) (passed _ 1 _ long)))))))
+      nets-inside _ _ _ (nIn job) (ltb-false (length job) (jobLength (nIn job)) (passed _ 1 _ long)))))))
 
-  module _ (long : length sheet ≡ sheetLength (nIn job) (cIn job)) where
-    differs-inside : (at x : ℕ) → at + 2 ≤ length sheet → Inside job sheet (nIn job) (differs sheet at x)
+  module _ (same : n ≡ nIn job) (long : length sheet ≡ sheetLength (nIn job) (cIn job)) where
+    differs-inside : (at x : ℕ) → at + 2 ≤ length sheet → Inside job sheet n (differs sheet at x)
     unfolding differs faultAt
-    differs-inside at x h = inside-if job sheet (nIn job) _ 22 _ (record { inside = h })
+    differs-inside at x h = inside-if job sheet n _ 22 _ (record { inside = h })
 
-    head-inside : Inside job sheet (nIn job) (headVerdict (numbersIn job) sheet)
+    head-inside : Inside job sheet n (headVerdict (numbersIn job) sheet)
     unfolding headVerdict
     head-inside =
         both _ _ (differs-inside 0 3 (omega arith)) (λ _.
@@ -96,17 +95,26 @@ module _ (job sheet : List ℕ) where
         both _ _ (differs-inside nAt (nIn job) (omega arith)) (λ _.
         differs-inside (totalsCountAt (nIn job)) (cIn job) (omega arith))))))
 
-    sheet-inside : Inside job sheet (nIn job) (headVerdict (numbersIn job) sheet then numbersVerdict job sheet)
-    unfolding numbersVerdict assignedVerdict rangeVerdict loadsVerdict spreadVerdict totalsVerdict faultAt
-    sheet-inside =
-        both _ _ head-inside (λ _.
-        both _ _ (both _ _ (inside-first job sheet (nIn job) _ (nIn job) (λ i l. inside-if job sheet (nIn job) _ 23 _ (record { inside = omega arith }))) (λ _.
-        inside-first job sheet (nIn job) _ (fIn job) (λ v lv. inside-first job sheet (nIn job) _ (cIn job) (λ x lx. none-if _ 24 _ refl)))) (λ _.
-        both _ _ (inside-first job sheet (nIn job) _ (cIn job) (λ x l. none-if _ 25 _ refl)) (λ _.
-        inside-first job sheet (nIn job) _ (cIn job) (λ x l. inside-if job sheet (nIn job) _ 26 _ (record { inside = omega arith })))))
+    assigned-inside : Inside job sheet n (assignedVerdict 23 (jobIn job) (crossbarIn sheet))
+    unfolding assignedVerdict rangeVerdict loadsVerdict faultAt
+    assigned-inside =
+        both _ _ (inside-first job sheet n _ (nIn job) (λ i l. inside-if job sheet n _ 23 _ (record { inside = omega arith }))) (λ _.
+        inside-first job sheet n _ (fIn job) (λ v lv. inside-first job sheet n _ (cIn job) (λ x lx. none-if _ 24 _ refl)))
 
-  pub audit-inside : Inside job sheet (nIn job) (auditVerdict job sheet)
-  unfolding auditVerdict againstVerdict faultAt
-  audit-inside =
-      both _ _ job-inside (λ _.
-      both _ _ (none-if _ 21 _ refl) (λ long. sheet-inside (eqb-true _ _ (not-false _ (passed _ 21 _ long)))))
+    numbers-inside : Inside job sheet n (numbersVerdict job sheet)
+    unfolding numbersVerdict spreadVerdict totalsVerdict faultAt
+    numbers-inside =
+        both _ _ assigned-inside (λ _.
+        both _ _ (inside-first job sheet n _ (cIn job) (λ x l. none-if _ 25 _ refl)) (λ _.
+        inside-first job sheet n _ (cIn job) (λ x l. inside-if job sheet n _ 26 _ (record { inside = omega arith }))))
+
+-- with the number of nets that the job check gives
+pub audit-inside : (job sheet : List ℕ) → Inside job sheet (boardOf job .n) (auditVerdict job sheet)
+unfolding auditVerdict againstVerdict faultAt
+audit-inside job sheet =
+    both job sheet (boardOf job .n) _ _ (job-inside job sheet (boardOf job .n)) (λ done.
+    let same : boardOf job .n ≡ nIn job = ap (λ (b : Board). b .n) (board-done job done) in
+    both job sheet (boardOf job .n) _ _ (none-if job sheet (boardOf job .n) _ 21 _ refl) (λ long.
+    let right = eqb-true _ _ (not-false _ (passed _ 21 _ long)) in
+    both job sheet (boardOf job .n) _ _ (head-inside job sheet (boardOf job .n) same right) (λ _.
+    numbers-inside job sheet (boardOf job .n) same right)))

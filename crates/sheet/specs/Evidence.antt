@@ -7,21 +7,18 @@ use denote.Ref.{RefT, now}
 use Rattle.words.specs.declared.Verdict.{Verdict}
 use Rattle.words.specs.Verdict.{numberOf, pOf}
 use Rattle.words.specs.Lent.{Stretch}
-use Rattle.job.specs.Job.{netsAt, nIn}
+use Rattle.job.specs.Job.{netsAt}
+use Rattle.job.specs.Check.{boardOf}
+use Rattle.sheet.specs.declared.Fault.{Fault}
 use Rattle.sheet.specs.Sheet.{numbersAt, totalsAt}
 use Rattle.sheet.specs.Audit.{auditVerdict}
 
--- in which of the two files, from which byte, how many bytes
-pub record Fault : Type 0 where
-  pub in-sheet : Bool
-  pub from : ℕ
-  pub long : ℕ
-
+-- so many bytes from this one on, of the one file or the other
 abbrev pub inJob : ℕ → ℕ → Fault
-inJob from long = record { in-sheet = false; from = from; long = long }
+inJob from long = record { sheet = false; start = from; long = long }
 
 abbrev pub inSheet : ℕ → ℕ → Fault
-inSheet from long = record { in-sheet = true; from = from; long = long }
+inSheet from long = record { sheet = true; start = from; long = long }
 
 -- of refusal k at p, for a job of n nets: the net of 9 and 10; the number of 22; the net's number of 23; the written total of 26
 unfoldable pub faultAt : ℕ → ℕ → ℕ → Fault
@@ -37,7 +34,7 @@ faultOf n v = faultAt n (numberOf v) (pOf v)
 
 -- r is that stretch of the caller's own bytes
 abbrev pub EvidenceOf : Fault → RefT (List ℕ) → RefT (List ℕ) → RefT (List ℕ) → Type 0
-EvidenceOf e job sheet r = Stretch (cond (e .in-sheet) sheet job) (e .from) (e .long) r
+EvidenceOf e job sheet r = Stretch (cond (e .sheet) sheet job) (e .start) (e .long) r
 
 abbrev pub Evidence : RefT (List ℕ) → RefT (List ℕ) → RefT (List ℕ) → Type 0
-Evidence job sheet r = EvidenceOf (faultOf (nIn (now job)) (auditVerdict (now job) (now sheet))) job sheet r
+Evidence job sheet r = EvidenceOf (faultOf (boardOf (now job) .n) (auditVerdict (now job) (now sheet))) job sheet r

@@ -12,6 +12,14 @@ pub mod totals;
 // The byte of the first crossbar number.
 pub const NUMBERS_AT: usize = 10;
 
+// A stretch of the job or of the sheet.
+pub struct Fault {
+    // In the sheet; else in the job.
+    pub sheet: bool,
+    pub start: usize,
+    pub long: usize,
+}
+
 // The byte of the first total, of a sheet of n nets.
 pub fn totals_at(n: usize) -> usize
     requires { ⌜ n ≤ 4096 ⌝ }
