@@ -27,7 +27,7 @@ slice-aggregate-first-above c = sym (c .before .loads-on .ensures .long)
 
 first-above-requires : tie.Need-first-above-requires Inv-loop μ-loop
 first-above-requires c κs = let l = c .before .before .before .before .loop in
-    lowest-fits _ _ (c .before .before .before .before .before .before .before .pre .0) _ (l .x) _ (l .inv .1) (c .before .loads-on .ensures)
+    omega (arith, lowest-fits _ _ (c .before .before .before .before .before .before .before .pre .0) _ (l .x) _ (l .inv .1) (c .before .loads-on .ensures))
 
 add-x : tie.Need-add-x Inv-loop μ-loop
 add-x c = search needs
