@@ -2,6 +2,7 @@
 -- Assumes nothing.
 use mathlib.Core.Path.{_≡_, ap, sym, _∙_}
 use mathlib.Core.Bool.{Bool}
+use mathlib.Core.List.{List}
 use mathlib.Core.Logic.{_↔_}
 use Prim.Native.Nat.{ℕ, _≤_, _<_}
 use native.Mathlib.Omega.{arith}
@@ -16,12 +17,17 @@ use Rattle.words.specs.declared.Verdict.the-variants.{Done, Refused}
 use Rattle.words.specs.Verdict.{refuse, refuseIf, atFpga}
 use Rattle.words.proofs.Order.{refuses, passes}
 use Rattle.words.proofs.LowestRefusal.{lowest-refusal}
-use Rattle.board.specs.Job.{Job}
+use Rattle.job.specs.Job.{nIn}
+use Rattle.job.specs.Check.{jobVerdict}
+use Rattle.board.specs.Job.{Job, jobIn}
 use Rattle.board.specs.Board.{degree, limit, InRange, Legal}
 use Rattle.board.proofs.Limit.{over-limit, legal-limit}
 use Rattle.tally.specs.Check.{degreeVerdict}
 use Rattle.tally.proofs.Faults.{degrees-say}
+use Rattle.scratch.specs.Scratch.{scratchLong}
 use Rattle.round.specs.Degree.{WithinLimits}
+use Rattle.round.specs.Start.{planVerdict}
+use Rattle.round.proofs.Starting.{room-enough, plan-checked}
 
 module _ (J : Job) where
   -- a degree above the limit leaves no legal assignment
@@ -65,3 +71,22 @@ module _ (J : Job) where
   -- so a refusal on degree is never given where an assignment is legal
   pub refused-not-legal : (r : Refusal) → degreeVerdict J ≡ Refused r → (a : ℕ → ℕ) → InRange J a → Legal J a → ⊥
   refused-not-legal r e a h = let w = degree-refused r e .0 in no-assignment (w .at) (w .below) (w .holds) a h
+
+-- ---- the call: a sound job with room enough is refused on a degree above the limit and on nothing else
+
+module _ (job : List ℕ) (room scratch : ℕ) (sound : jobVerdict job ≡ Done) (nets : nIn job ≤ room) (long : scratchLong ≤ scratch) where
+  plan-by-degree : planVerdict job room scratch ≡ degreeVerdict (jobIn job)
+  plan-by-degree = plan-checked job room scratch sound (room-enough (nIn job) room scratch nets long)
+
+  pub plan-accepted : (planVerdict job room scratch ≡ Done) ↔ WithinLimits (jobIn job)
+  plan-accepted = (λ e. degree-done (jobIn job) .0 (sym plan-by-degree ∙ e), λ w. plan-by-degree ∙ degree-done (jobIn job) .1 w)
+
+  pub plan-refusal : (w : Lowest (λ v. limit (jobIn job) v < degree (jobIn job) v) (jobIn job .f)) → planVerdict job room scratch ≡ refuse 12 (atFpga (w .at))
+  plan-refusal w = plan-by-degree ∙ degree-refusal (jobIn job) w
+
+  pub plan-refused-only : (r : Refusal) → planVerdict job room scratch ≡ Refused r
+      → (w : Lowest (λ v. limit (jobIn job) v < degree (jobIn job) v) (jobIn job .f)) × (Refused r ≡ refuse 12 (atFpga (w .at)))
+  plan-refused-only r e = degree-refused (jobIn job) r (sym plan-by-degree ∙ e)
+
+  pub plan-refused-not-legal : (r : Refusal) → planVerdict job room scratch ≡ Refused r → (a : ℕ → ℕ) → InRange (jobIn job) a → Legal (jobIn job) a → ⊥
+  plan-refused-not-legal r e = refused-not-legal (jobIn job) r (sym plan-by-degree ∙ e)

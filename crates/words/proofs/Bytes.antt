@@ -139,6 +139,15 @@ write-next xs r room i l h e =
     ∙ put-next (take i xs) r (getD xs i 0) i (length-take-le i xs (omega arith)) (omega arith)
     ∙ ap (λ (t : List ℕ). onto (bytes t) r) more
 
+-- one more number is put behind those that stand at the front of a room
+pub onto-next : (xs r : List ℕ) (x i : ℕ) → length xs ≡ i → i < length r → set (onto xs r) i x ≡ onto (xs ++ (x ∷ [])) r
+onto-next xs r x i e l =
+    let longer : length (xs ++ (x ∷ [])) ≡ suc i = simp length-append (omega arith) in
+    ap (λ (t : List ℕ). set t i x) (ap (λ (j : ℕ). xs ++ drop j r) e ∙ ap (λ (t : List ℕ). xs ++ t) (drop-cons r i 0 l))
+    ∙ set-at xs _ _ x i e
+    ∙ sym (append-snoc xs x (drop (suc i) r))
+    ∙ ap (λ (j : ℕ). (xs ++ (x ∷ [])) ++ drop j r) (sym longer)
+
 -- one more number is read behind those that were
 pub read-next : (s r out : List ℕ) (i : ℕ) → i < length r → 2 * length r ≤ length s → out ≡ onto (take i (numbers s)) r
     → set out i (word s (2 * i)) ≡ onto (take (i + 1) (numbers s)) r
@@ -146,9 +155,6 @@ read-next s r out i l h e =
     let many : i < length (numbers s) = omega (arith, length-numbers s) in
     let long : length (take i (numbers s)) ≡ i = length-take-le i (numbers s) (omega arith) in
     let more : take i (numbers s) ++ (getD (numbers s) i 0 ∷ []) ≡ take (i + 1) (numbers s) = rw (add-one, take-suc (numbers s) i 0) in
-    let longer : length (take i (numbers s) ++ (word s (2 * i) ∷ [])) ≡ suc i = simp length-append (omega arith) in
-    ap (λ (t : List ℕ). set t i (word s (2 * i))) (e ∙ ap (λ (j : ℕ). take i (numbers s) ++ drop j r) long ∙ ap (λ (t : List ℕ). take i (numbers s) ++ t) (drop-cons r i 0 l))
-    ∙ set-at (take i (numbers s)) _ _ (word s (2 * i)) i long
-    ∙ sym (append-snoc (take i (numbers s)) (word s (2 * i)) (drop (suc i) r))
-    ∙ ap (λ (j : ℕ). (take i (numbers s) ++ (word s (2 * i) ∷ [])) ++ drop j r) (sym longer)
+    ap (λ (t : List ℕ). set t i (word s (2 * i))) e
+    ∙ onto-next (take i (numbers s)) r (word s (2 * i)) i long l
     ∙ ap (λ (t : List ℕ). onto t r) (ap (λ (x : ℕ). take i (numbers s) ++ (x ∷ [])) (sym (number-at s i (omega arith))) ∙ more)

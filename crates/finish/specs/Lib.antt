@@ -1,0 +1,3 @@
+-- Finish and plan as calls.
+pub mod Finish
+pub mod Plan
