@@ -2,6 +2,7 @@
 -- Assumes nothing.
 use mathlib.Core.Path.{_≡_, refl, ap, sym, _∙_}
 use mathlib.Core.Bool.{Bool, not}
+use mathlib.Core.Logic.{_↔_}
 use mathlib.Core.List.{List, [], _∷_, _++_, append-nil}
 use Prim.Native.Nat.{ℕ, _+_, _*_, _%_, _<_}
 use native.Mathlib.Omega.{arith}
@@ -19,7 +20,7 @@ use Rattle.board.specs.Job.{jobIn}
 use Rattle.board.specs.Board.{total, InRange, Legal, Balanced}
 use Rattle.board.proofs.Alike.{total-alike, spread-alike, excess-alike, in-range-alike}
 use Rattle.sheet.specs.Sheet.{numbersAt, totalsCountAt, totalsAt, sheetLength, crossbarIn, totalIn, sheetNumbers, sheetOf}
-use Rattle.sheet.specs.Audit.{differs, headVerdict, assignedVerdict, numbersVerdict, againstVerdict, auditVerdict, Audited}
+use Rattle.sheet.specs.Audit.{differs, headVerdict, assignedVerdict, numbersVerdict, againstVerdict, auditVerdict, fitVerdict, writeSheetVerdict, Audited, Written}
 use Rattle.sheet.proofs.Counts.{agrees, agreed}
 use Rattle.sheet.proofs.Parts.{assigned-says, spread-says, totals-say}
 use Rattle.sheet.proofs.Saying.{said-length, said-count, said-f, said-c, said-m, said-n, said-crossbar, said-totals-count, said-total}
@@ -120,3 +121,47 @@ pub same-meaning : (job sheet₁ sheet₂ : List ℕ) → AreBytes sheet₁ → 
     → ((i : ℕ) → i < nIn job → crossbarIn sheet₁ i ≡ crossbarIn sheet₂ i) → sheet₁ ≡ sheet₂
 same-meaning job sheet₁ sheet₂ s₁ s₂ d₁ d₂ h =
     audited-is-written job sheet₁ s₁ (audited job sheet₁ d₁) ∙ same-sheet job _ _ h ∙ sym (audited-is-written job sheet₂ s₂ (audited job sheet₂ d₂))
+
+-- The audit is done exactly where the sheet is what the writer writes for some legal balanced assignment of the job.
+pub audit-exactly : (job sheet : List ℕ) → AreBytes sheet → (auditVerdict job sheet ≡ Done) ↔ Written job sheet
+audit-exactly job sheet small = (
+  λ done.
+      let e = audited job sheet done in
+      record {
+        plan = crossbarIn sheet;
+        passes = e .passes;
+        in-range = e .in-range;
+        legal = e .legal;
+        balanced = e .balanced;
+        same = audited-is-written job sheet small e;
+      },
+  λ w. rw (w .same) (written-audits job (w .plan) (w .passes) (w .in-range) (w .legal) (w .balanced)),
+)
+
+-- What the writer accepts is such an assignment, so the audit accepts what it writes.
+module _ (job plan : List ℕ) (room : ℕ) (done : writeSheetVerdict job plan room ≡ Done) where
+  fit : fitVerdict job (at plan) ≡ Done
+  unfolding writeSheetVerdict
+  fit = then-second _ _ (then-second _ _ done)
+
+  its-job : jobVerdict job ≡ Done
+  unfolding writeSheetVerdict
+  its-job = then-first _ _ done
+
+  its-plan : InRange (jobIn job) (at plan) × Legal (jobIn job) (at plan)
+  unfolding fitVerdict
+  its-plan = assigned-says (jobIn job) (at plan) 13 .0 (then-first _ _ fit)
+
+  its-spread : Balanced (jobIn job) (at plan)
+  unfolding fitVerdict
+  its-spread = spread-says (jobIn job) (at plan) .0 (then-second _ _ fit)
+
+  pub writer-writes : Written job (sheetOf job (at plan))
+  writer-writes = record { plan = at plan; passes = its-job; in-range = its-plan .0; legal = its-plan .1; balanced = its-spread; same = refl }
+
+  pub writer-audits : auditVerdict job (sheetOf job (at plan)) ≡ Done
+  writer-audits = written-audits job (at plan) its-job (its-plan .0) (its-plan .1) its-spread
+
+  -- and reading it gives the assignment back
+  pub writer-reads-back : (i : ℕ) → i < nIn job → crossbarIn (sheetOf job (at plan)) i ≡ at plan i
+  writer-reads-back = said-crossbar job (at plan)

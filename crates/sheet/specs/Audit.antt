@@ -17,7 +17,7 @@ use Rattle.job.specs.Check.{jobVerdict, numbersIn}
 use Rattle.board.specs.Job.{Job, jobIn}
 use Rattle.board.specs.Board.{load, total, InRange, Legal, Balanced}
 use Rattle.tally.specs.Check.{rangeVerdict}
-use Rattle.sheet.specs.Sheet.{numbersAt, totalsCountAt, sheetLength, crossbarIn, totalIn}
+use Rattle.sheet.specs.Sheet.{totalsCountAt, sheetLength, crossbarIn, totalIn, sheetOf}
 
 -- 22: the number at this byte is not x
 unfoldable pub differs : List ℕ → ℕ → ℕ → Verdict
@@ -104,3 +104,12 @@ pub record Audited (job sheet : List ℕ) : Type 0 where
   pub legal : Legal (jobIn job) (crossbarIn sheet)
   pub balanced : Balanced (jobIn job) (crossbarIn sheet)
   pub totals : (x : ℕ) → x < cIn job → totalIn (nIn job) sheet x ≡ total (jobIn job) (crossbarIn sheet) x
+
+-- the sheet is what the writer writes for some legal balanced assignment of the job
+pub record Written (job sheet : List ℕ) : Type 0 where
+  pub plan : ℕ → ℕ
+  pub passes : jobVerdict job ≡ Done
+  pub in-range : InRange (jobIn job) plan
+  pub legal : Legal (jobIn job) plan
+  pub balanced : Balanced (jobIn job) plan
+  pub same : sheet ≡ sheetOf job plan
