@@ -60,6 +60,16 @@ module _ (job plan₀ plan s₀ s : List ℕ) (r : Finish) (call : PlanCall job 
       let a = by-rounds (Untouched plan₀ plan s₀ s) (PlannedIn job plan₀ plan s₀ s) r (rw v at (call .answered)) in
       (a .0, a .1, a .2, a .3 .planned)
 
+-- a plan that is not refused was accepted
+module _ (job plan₀ plan s₀ s : List ℕ) (k e : ℕ) where
+  planned-by : (v : Verdict) → v ≡ planVerdict job (length plan₀) (length s₀) → AnsweredBy v (Done k e) (Untouched plan₀ plan s₀ s) (PlannedIn job plan₀ plan s₀ s)
+      → (planVerdict job (length plan₀) (length s₀) ≡ verdict.Done) × PlannedIn job plan₀ plan s₀ s k e
+  planned-by verdict.Done q a = (sym q, a)
+  planned-by (verdict.Refused p) q a = absurd a
+
+  pub plan-done : PlanCall job plan₀ plan s₀ s (Done k e) → (planVerdict job (length plan₀) (length s₀) ≡ verdict.Done) × PlannedIn job plan₀ plan s₀ s k e
+  plan-done call = planned-by (planVerdict job (length plan₀) (length s₀)) refl (call .answered)
+
 -- condition 3 over the rounds of a finish that is not refused
 module _ (job plan₀ plan s₀ s : List ℕ) (k e : ℕ) (call : FinishCall job plan₀ plan s₀ s (Done k e)) where
   accepted : (v : Verdict) → v ≡ roundVerdict job plan₀ (length s₀) → AnsweredBy v (Done k e) (Untouched plan₀ plan s₀ s) (FinishedIn job plan₀ plan s₀ s)

@@ -1,0 +1,2 @@
+-- What the listing needs of a plan.
+pub mod Printing
