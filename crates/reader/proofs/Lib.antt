@@ -1,0 +1,2 @@
+-- What holds of a reader and what it gives.
+pub mod Giving

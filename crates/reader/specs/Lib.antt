@@ -1,0 +1,2 @@
+-- What a reader holds and gives.
+pub mod Held
