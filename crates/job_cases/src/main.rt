@@ -4,29 +4,13 @@ use job::check::check_job;
 use job::read::net_at;
 use job::read::net_section;
 use job::write::write_job;
-use libc::STDOUT_FILENO;
+use show::number;
+use show::show_verdict;
+use show::word;
 use words::Crossbar;
 use words::Fpga;
 use words::Net;
-use words::Verdict;
 use words::number::wide;
-
-fn word(text: &[u8]) {
-    io::write_all(STDOUT_FILENO, text);
-}
-
-fn number(n: usize) {
-    io::write_all(STDOUT_FILENO, b" ");
-    io::print_decimal(STDOUT_FILENO, n as u64);
-}
-
-// A verdict as its number, p and q.
-fn show_verdict(v: Verdict) {
-    word(b" verdict");
-    number(wide(words::number_of(v)));
-    number(words::p_of(v));
-    number(words::q_of(v));
-}
 
 fn show_net(ends: NetEnds) {
     match ends {
