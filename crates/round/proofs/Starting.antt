@@ -113,11 +113,15 @@ module _ (job plan : List ℕ) (scratch : ℕ) where
       let e : v ≡ roundVerdict job plan scratch = rw (p .c, p .n) at ev ∙ sym (round-checked h) in
       rw (e, eb)
 
--- what refuses nothing has shown
+  -- what refuses nothing has shown
+  module _ (done : roundVerdict job plan scratch ≡ Done) where
+    pub round-fitting : (b : Board) → b ≡ boardOf job → Fitting job b (length plan) scratch
+    unfolding roundVerdict
+    round-fitting = fitting job (length plan) scratch (then-first _ _ done)
+
+    pub round-in-range : InRange (jobIn job) (at plan)
+    unfolding roundVerdict
+    round-in-range = in-range-says (jobIn job) (at plan) 13 .0 (then-second _ _ done)
+
 pub ready : (job plan s : List ℕ) → roundVerdict job plan (length s) ≡ Done → (b : Board) → b ≡ boardOf job → Ready job b plan s
-unfolding roundVerdict
-ready job plan s done b eb =
-    record {
-      fitting = fitting job (length plan) (length s) (then-first _ _ done) b eb;
-      in-range = in-range-says (jobIn job) (at plan) 13 .0 (then-second _ _ done);
-    }
+ready job plan s done b eb = record { fitting = round-fitting job plan (length s) done b eb; in-range = round-in-range job plan (length s) done }

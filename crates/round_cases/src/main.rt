@@ -3,7 +3,6 @@
 use finish::Finish;
 use finish::calls::finish;
 use finish::calls::plan;
-use job::Board;
 use job::write::write_job;
 use libc::STDOUT_FILENO;
 use round::Round;
@@ -79,25 +78,32 @@ fn show_start(r: Finish) {
 // The first c of 128 counters.
 fn show_counts(counts: [u16; 128], c: usize) {
     let mut x: usize = 0;
-    while x < c && x < 128 {
-        number(wide(counts[x]));
+    while x < 128 {
+        let count = wide(counts[x]);
+        if x < c {
+            number(count);
+        }
         x += 1;
     }
 }
 
 // How many numbers of the scratch are not zero.
-fn show_scratch(s: &[u16]) {
+fn dirty(s: &[u16]) -> usize {
     let mut count: usize = 0;
     let mut i: usize = 0;
     while i < s.len() {
-        let dirty = s[i] != 0;
+        let not_zero = s[i] != 0;
         i += 1;
-        if dirty {
+        if not_zero {
             count += 1;
         }
     }
+    count
+}
+
+fn show_scratch(s: &[u16]) {
     word(b" scratch");
-    number(count);
+    number(dirty(s));
     word(b"\n");
 }
 
@@ -184,18 +190,29 @@ fn case_6() {
     show_planned(b"case 6", &job, &mut d, &mut s);
 }
 
-fn case_7() {
+fn case_7_job() -> [u8; 34] {
     let mut job = [0u8; 34];
     write(2, 3, 6, &[0u16, 1, 0, 1, 0, 1, 0, 1, 0, 1, 0, 1], &mut job);
+    job
+}
+
+fn case_7_rounds() {
+    let job = case_7_job();
     let mut s = [7u16; 32769];
     let mut a = [1u16; 6];
     show_one(b"case 7", &job, &mut a, &mut s);
     show_one(b"case 7", &job, &mut a, &mut s);
     show_one(b"case 7", &job, &mut a, &mut s);
     show_one(b"case 7", &job, &mut a, &mut s);
-    let mut b = [1u16; 6];
-    show_finished(b"case 7", &job, &mut b, &mut s);
-    show_planned(b"case 7", &job, &mut a, &mut s);
+}
+
+fn case_7() {
+    let job = case_7_job();
+    let mut s = [7u16; 32769];
+    let mut a = [1u16; 6];
+    show_finished(b"case 7", &job, &mut a, &mut s);
+    let mut b = [9u16; 6];
+    show_planned(b"case 7", &job, &mut b, &mut s);
 }
 
 fn case_8() {
@@ -245,20 +262,23 @@ fn refusals() {
     show_planned(b"no job", &[0u8; 9], &mut a, &mut s);
 }
 
-// Net i of the large job: every FPGA is 128 times its first end and 128 times its second.
-fn large_ends(ends: &mut [u16]) {
+// The ends of the large job: every FPGA is 128 times a first end and 128 times a second.
+fn large_ends() -> [u16; 8192] {
+    let mut ends = [0u16; 8192];
     let mut i: usize = 0;
-    while i < 4096 && i < ends.len() / 2 {
-        ends[2 * i] = (i % 32) as u16;
-        ends[2 * i + 1] = ((i + 1 + i / 32 % 31) % 32) as u16;
+    while i < 4096 {
+        let v = i % 32;
+        let w = (v + 1 + i / 32 % 31) % 32;
+        ends[2 * i] = v as u16;
+        ends[2 * i + 1] = w as u16;
         i += 1;
     }
+    ends
 }
 
 // 4,096 nets, f 32, c 128, m 2: every degree is 256, the limit, so every load has to become 2.
 fn large() {
-    let mut ends = [0u16; 8192];
-    large_ends(&mut ends);
+    let ends = large_ends();
     let mut job = [0u8; 16394];
     write(32, 128, 4096, &ends, &mut job);
     let mut s = [7u16; 32768];
@@ -272,6 +292,7 @@ fn large() {
 
 fn main() {
     case_6();
+    case_7_rounds();
     case_7();
     case_8();
     case_11();

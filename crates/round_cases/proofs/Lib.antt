@@ -1,0 +1,2 @@
+-- What the program's own functions need.
+pub mod Measuring
