@@ -9,22 +9,13 @@ use job::NetEnds;
 use job::read::board_of;
 use job::read::net_at;
 use libc::STDIN_FILENO;
-use libc::STDOUT_FILENO;
+use show::number;
+use show::word;
 use tally::count::totals_of;
 use words::Net;
 use words::Refusal;
 use words::Verdict;
 use words::number::wide;
-
-fn word(text: &[u8]) {
-    io::write_all(STDOUT_FILENO, text);
-}
-
-// A space and a number.
-fn number(n: usize) {
-    word(b" ");
-    io::print_decimal(STDOUT_FILENO, n as u64);
-}
 
 fn print_refusal(r: Refusal) {
     let v = Verdict::Refused(r);

@@ -11,9 +11,10 @@ use job::check::check_job;
 use job::read::first_end;
 use job::read::second_end;
 use job::write::write_job;
-use libc::STDOUT_FILENO;
 use recolour::recolour;
 use scratch::SCRATCH;
+use show::number;
+use show::word;
 use words::Crossbar;
 use words::Fpga;
 use words::Net;
@@ -22,15 +23,6 @@ use words::number::wide;
 
 // What stands in room that no call may write to.
 const MARK: u16 = 777;
-
-fn word(text: &[u8]) {
-    io::write_all(STDOUT_FILENO, text);
-}
-
-fn number(n: usize) {
-    io::write_all(STDOUT_FILENO, b" ");
-    io::print_decimal(STDOUT_FILENO, n as u64);
-}
 
 // Net i ends at FPGA v.
 fn ends_at(job: &[u8], start: usize, i: usize, v: usize) -> bool
