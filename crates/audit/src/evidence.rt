@@ -3,7 +3,7 @@ ghost use mathlib.Core.Path.{_≡_};
 ghost use Prim.Native.Nat.{_+_, _^_, _≤_, _<_};
 ghost use lib.ListN.{length};
 ghost use Rattle.words.specs.Lent.{Stretch};
-ghost use Rattle.sheet.specs.Evidence.{faultAt, Evidence};
+ghost use Rattle.sheet.specs.Evidence.{inJob, inSheet, faultAt, Evidence};
 use crate::audit::audit_job;
 use job::NETS_AT;
 use sheet::Fault;
@@ -12,51 +12,39 @@ use sheet::totals_at;
 use words::number_of;
 use words::p_of;
 
+fn in_job(start: usize, long: usize) -> Fault
+    ensures { λ r. ⌜ r ≡ inJob start long ⌝ }
+{
+    Fault { sheet: false, start, long }
+}
+
+fn in_sheet(start: usize, long: usize) -> Fault
+    ensures { λ r. ⌜ r ≡ inSheet start long ⌝ }
+{
+    Fault { sheet: true, start, long }
+}
+
 // What a refusal points at, with p its first place, in a job of n nets; the empty start of the job where it points at no bytes.
 fn fault_of(n: usize, number: u16, p: usize) -> Fault
     requires { ⌜ (n ≤ 4096) × (faultAt n number p .start < 2 ^ 63) ⌝ }
     ensures { λ r. ⌜ r ≡ faultAt n number p ⌝ }
 {
     if number == 9 {
-        return Fault {
-            sheet: false,
-            start: NETS_AT + 4 * p,
-            long: 4,
-        };
+        return in_job(NETS_AT + 4 * p, 4);
     }
     if number == 10 {
-        return Fault {
-            sheet: false,
-            start: NETS_AT + 4 * p,
-            long: 4,
-        };
+        return in_job(NETS_AT + 4 * p, 4);
     }
     if number == 22 {
-        return Fault {
-            sheet: true,
-            start: p,
-            long: 2,
-        };
+        return in_sheet(p, 2);
     }
     if number == 23 {
-        return Fault {
-            sheet: true,
-            start: NUMBERS_AT + 2 * p,
-            long: 2,
-        };
+        return in_sheet(NUMBERS_AT + 2 * p, 2);
     }
     if number == 26 {
-        return Fault {
-            sheet: true,
-            start: totals_at(n) + 2 * p,
-            long: 2,
-        };
+        return in_sheet(totals_at(n) + 2 * p, 2);
     }
-    Fault {
-        sheet: false,
-        start: 0,
-        long: 0,
-    }
+    in_job(0, 0)
 }
 
 // `long` bytes of s from `start` on.

@@ -28,10 +28,10 @@ fn check_ends(ends: &[u16], f: usize, n: usize) -> Verdict
     while i < n {
         let v = wide(ends[2 * i]);
         let w = wide(ends[2 * i + 1]);
-        let verdict = check_net(f, i as u16, v, w);
+        let found = check_net(f, i as u16, v, w);
         i += 1;
-        if let Verdict::Refused(_) = verdict {
-            return verdict;
+        if let Verdict::Refused(_) = found {
+            return found;
         }
     }
     Verdict::Done

@@ -79,84 +79,49 @@ fn show_long(name: &[u8], high: u8, low: u8, length: usize) {
     show_first(name, &job, length);
 }
 
-fn main() {
+fn written() {
     let mut ten = [0u8; 10];
     show_written(b"case 1", 1, 1, 2, 0, &[0u16; 0], &mut ten);
     let mut room = [0u8; 26];
-    show_written(
-        b"case 2",
-        3,
-        2,
-        2,
-        4,
-        &[0u16, 1, 1, 2, 2, 0, 0, 1],
-        &mut room,
-    );
+    let four = [0u16, 1, 1, 2, 2, 0, 0, 1];
+    show_written(b"case 2", 3, 2, 2, 4, &four, &mut room);
     let mut two = [0u8; 18];
-    show_written(b"case 3, two nets", 2, 1, 2, 2, &[0u16, 1, 0, 1], &mut two);
+    let alike = [0u16, 1, 0, 1, 0, 1];
+    show_written(b"case 3, two nets", 2, 1, 2, 2, &alike, &mut two);
     let mut three = [0u8; 22];
-    show_written(
-        b"case 3, three nets",
-        2,
-        1,
-        2,
-        3,
-        &[0u16, 1, 0, 1, 0, 1],
-        &mut three,
-    );
-    show_written(
-        b"case 4, by the writer",
-        3,
-        2,
-        1,
-        3,
-        &[0u16, 1, 1, 2, 2, 0],
-        &mut three,
-    );
-    let triangle = [
-        0u8,
-        3,
-        0,
-        3,
-        0,
-        2,
-        0,
-        1,
-        0,
-        3,
-        0,
-        0,
-        0,
-        1,
-        0,
-        1,
-        0,
-        2,
-        0,
-        2,
-        0,
-        0,
-    ];
-    show(b"case 4", &triangle);
-    show(b"case 5, m 0", &[0u8, 3, 0, 1, 0, 1, 0, 0, 0, 0]);
-    show(b"case 5, m 65", &[0u8, 3, 0, 1, 0, 1, 0, 65, 0, 0]);
-    show(b"case 5, m 64", &[0u8, 3, 0, 1, 0, 1, 0, 64, 0, 0]);
-    show(b"case 5, m 63", &[0u8, 3, 0, 1, 0, 1, 0, 63, 0, 0]);
-    show(
-        b"case 9, f 5",
-        &[0u8, 3, 0, 5, 0, 1, 0, 2, 0, 1, 0, 5, 0, 5],
-    );
-    show(
-        b"case 9, f 6",
-        &[0u8, 3, 0, 6, 0, 1, 0, 2, 0, 1, 0, 5, 0, 5],
-    );
+    show_written(b"case 3, three nets", 2, 1, 2, 3, &alike, &mut three);
+    let triangle = [0u16, 1, 1, 2, 2, 0];
+    show_written(b"case 4, by the writer", 3, 2, 1, 3, &triangle, &mut three);
+}
+
+fn widths() {
+    show(b"case 4", b"\0\x03\0\x03\0\x02\0\x01\0\x03\0\0\0\x01\0\x01\0\x02\0\x02\0\0");
+    show(b"case 5, m 0", b"\0\x03\0\x01\0\x01\0\0\0\0");
+    show(b"case 5, m 65", b"\0\x03\0\x01\0\x01\0\x41\0\0");
+    show(b"case 5, m 64", b"\0\x03\0\x01\0\x01\0\x40\0\0");
+    show(b"case 5, m 63", b"\0\x03\0\x01\0\x01\0\x3f\0\0");
+}
+
+fn nets() {
+    show(b"case 9, f 5", b"\0\x03\0\x05\0\x01\0\x02\0\x01\0\x05\0\x05");
+    show(b"case 9, f 6", b"\0\x03\0\x06\0\x01\0\x02\0\x01\0\x05\0\x05");
     show_long(b"case 10, n 4096", 16, 0, 16394);
     show_long(b"case 10, n 4097", 16, 1, 16398);
     show_long(b"case 10, n 4097 cut", 16, 1, 10);
     show_long(b"case 10, one more", 16, 0, 16395);
     show_long(b"one less", 16, 0, 16393);
-    show(b"nine bytes", &[0u8, 3, 0, 1, 0, 1, 0, 2, 0]);
-    show(b"count 4", &[0u8, 4, 0, 1, 0, 1, 0, 2, 0, 0]);
-    show(b"f 257", &[0u8, 3, 1, 1, 0, 1, 0, 2, 0, 0]);
-    show(b"c 129", &[0u8, 3, 1, 0, 0, 129, 0, 2, 0, 0]);
+}
+
+fn heads() {
+    show(b"nine bytes", b"\0\x03\0\x01\0\x01\0\x02\0");
+    show(b"count 4", b"\0\x04\0\x01\0\x01\0\x02\0\0");
+    show(b"f 257", b"\0\x03\x01\x01\0\x01\0\x02\0\0");
+    show(b"c 129", b"\0\x03\x01\0\0\x81\0\x02\0\0");
+}
+
+fn main() {
+    written();
+    widths();
+    nets();
+    heads();
 }
