@@ -15,13 +15,21 @@ use words::p_of;
 fn in_job(start: usize, long: usize) -> Fault
     ensures { λ r. ⌜ r ≡ inJob start long ⌝ }
 {
-    Fault { sheet: false, start, long }
+    Fault {
+        sheet: false,
+        start,
+        long,
+    }
 }
 
 fn in_sheet(start: usize, long: usize) -> Fault
     ensures { λ r. ⌜ r ≡ inSheet start long ⌝ }
 {
-    Fault { sheet: true, start, long }
+    Fault {
+        sheet: true,
+        start,
+        long,
+    }
 }
 
 // What a refusal points at, with p its first place, in a job of n nets; the empty start of the job where it points at no bytes.

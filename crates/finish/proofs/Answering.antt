@@ -1,8 +1,8 @@
 -- Finish and plan as calls: refused, or rounds from the start or from the deal.
 -- Assumes nothing.
-use mathlib.Core.Path.{_≡_, refl, ap, sym, subst, _∙_}
+use mathlib.Core.Path.{_≡_, refl, ap, sym, _∙_}
 use mathlib.Core.List.{List}
-use Prim.Native.Nat.{ℕ, _≤_, _<_}
+use Prim.Native.Nat.{ℕ, _≤_}
 use native.Mathlib.Omega.{arith}
 use lib.ListN.{length, drop}
 use Rattle.laws.specs.Row.{at}
@@ -14,9 +14,8 @@ use Rattle.job.specs.Job.{nIn}
 use Rattle.board.specs.Job.{Job, jobIn}
 use Rattle.board.specs.Board.{deal, Alike}
 use Rattle.board.proofs.Sound.{sound}
-use Rattle.round.specs.Round.{Finished}
 use Rattle.round.specs.Start.{planVerdict, roundVerdict, planChecked, roundChecked, Fitting, Ready}
-use Rattle.round.specs.OneRound.{Untouched, Accepted}
+use Rattle.round.specs.OneRound.{Untouched}
 use Rattle.round.proofs.Starting.{fitting, ready}
 use Rattle.round.proofs.Planning.{dealt-in-range, plan-possible}
 use Rattle.finish.specs.declared.Finish.{Finish}
@@ -68,9 +67,6 @@ module _ (job plan s : List ℕ) (start : Checked) (e : start ≡ planChecked jo
 
     pub plan-fitting : Fitting job b (length plan) (length s)
     plan-fitting = fitting job (length plan) (length s) plan-done-verdict b (ap (λ (k : Checked). k .board) e)
-
-    pub deal-fits : (b .n ≤ length plan) × (0 < b .c) × (b .c ≤ 128)
-    deal-fits = let r = plan-fitting .passed .ranged in (plan-fitting .every-net, omega (arith, r .c-low), r .c-high)
 
     module _ (plan₁ : List ℕ) (d : plan₁ ≡ dealtOver (b .c) (b .n) plan) where
       start-dealt : plan₁ ≡ dealt J plan

@@ -1,6 +1,6 @@
 -- What the contracts of finish and plan promise: condition 2, condition 3 over all rounds, and how few the rounds are.
 -- Assumes nothing.
-use mathlib.Core.Path.{_≡_, refl, sym, subst, _∙_}
+use mathlib.Core.Path.{_≡_, refl, sym}
 use mathlib.Core.List.{List}
 use Prim.Native.Nat.{ℕ, _*_, _≤_, _<_}
 use native.Mathlib.Omega.{arith}
@@ -14,12 +14,12 @@ use Rattle.words.specs.Verdict.{atFpga}
 use Rattle.job.specs.Job.{nIn}
 use Rattle.job.specs.Check.{jobVerdict, boardOf}
 use Rattle.board.specs.Job.{Job, jobIn}
-use Rattle.board.specs.Board.{degree, limit, totalExcess, InRange, Legal}
+use Rattle.board.specs.Board.{degree, limit, InRange, Legal}
 use Rattle.board.proofs.Excess.{totalExcess-at-most}
 use Rattle.scratch.specs.Scratch.{scratchLong}
 use Rattle.round.specs.Degree.{WithinLimits}
 use Rattle.round.specs.Round.{ImprovesBy, Planned}
-use Rattle.round.specs.Start.{planVerdict, roundVerdict}
+use Rattle.round.specs.Start.{roundVerdict}
 use Rattle.round.specs.OneRound.{Untouched}
 use Rattle.round.proofs.Starting.{ready}
 use Rattle.round.proofs.Chains.{chain-improves, chain-short}

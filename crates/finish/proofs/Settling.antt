@@ -1,10 +1,9 @@
 -- Rounds one after the other: each lengthens the chain, and the last one leaves the assignment legal.
 -- Assumes nothing.
-use mathlib.Core.Path.{_≡_, refl, ap, sym, subst, _∙_}
+use mathlib.Core.Path.{_≡_, refl, _∙_}
 use mathlib.Core.List.{List}
 use Prim.Native.Nat.{ℕ, _+_, _≤_, _<_}
 use native.Mathlib.Omega.{arith}
-use lib.ListN.{length, drop}
 use Rattle.laws.specs.Row.{at}
 use Rattle.words.specs.declared.Fpga.{Fpga}
 use Rattle.words.specs.declared.Crossbar.{Crossbar}

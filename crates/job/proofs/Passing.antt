@@ -121,7 +121,6 @@ start-inside job = go (jobVerdict job) refl
     go Done h = head job h
     go (Refused r) h = omega arith
 
--- the check's answer, where it is done
 -- nor are there ever more nets than the largest job has
 pub nets-few : (job : List ℕ) → boardOf job .n ≤ 4096
 unfolding boardOf
@@ -131,6 +130,7 @@ nets-few job = go (jobVerdict job) refl
     go Done h = passes job h .ranged .n-high
     go (Refused r) h = omega arith
 
+-- the check's answer, where it is done
 pub checked-passed : (job : List ℕ) (k : Checked) → k ≡ checkedOf job → k .verdict ≡ Done → Passed job (k .board)
 checked-passed job k e done =
     let v : jobVerdict job ≡ Done = sym (ap (λ (c : Checked). c .verdict) e) ∙ done in

@@ -92,10 +92,15 @@ fn written() {
     show_written(b"case 3, three nets", 2, 1, 2, 3, &alike, &mut three);
     let triangle = [0u16, 1, 1, 2, 2, 0];
     show_written(b"case 4, by the writer", 3, 2, 1, 3, &triangle, &mut three);
+    show_written(b"too little room", 2, 1, 2, 2, &alike, &mut ten);
+    show_written(b"too few numbers", 3, 2, 2, 4, &triangle, &mut room);
 }
 
 fn widths() {
-    show(b"case 4", b"\0\x03\0\x03\0\x02\0\x01\0\x03\0\0\0\x01\0\x01\0\x02\0\x02\0\0");
+    show(
+        b"case 4",
+        b"\0\x03\0\x03\0\x02\0\x01\0\x03\0\0\0\x01\0\x01\0\x02\0\x02\0\0",
+    );
     show(b"case 5, m 0", b"\0\x03\0\x01\0\x01\0\0\0\0");
     show(b"case 5, m 65", b"\0\x03\0\x01\0\x01\0\x41\0\0");
     show(b"case 5, m 64", b"\0\x03\0\x01\0\x01\0\x40\0\0");
@@ -103,8 +108,14 @@ fn widths() {
 }
 
 fn nets() {
-    show(b"case 9, f 5", b"\0\x03\0\x05\0\x01\0\x02\0\x01\0\x05\0\x05");
-    show(b"case 9, f 6", b"\0\x03\0\x06\0\x01\0\x02\0\x01\0\x05\0\x05");
+    show(
+        b"case 9, f 5",
+        b"\0\x03\0\x05\0\x01\0\x02\0\x01\0\x05\0\x05",
+    );
+    show(
+        b"case 9, f 6",
+        b"\0\x03\0\x06\0\x01\0\x02\0\x01\0\x05\0\x05",
+    );
     show_long(b"case 10, n 4096", 16, 0, 16394);
     show_long(b"case 10, n 4097", 16, 1, 16398);
     show_long(b"case 10, n 4097 cut", 16, 1, 10);

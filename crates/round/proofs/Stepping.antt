@@ -1,11 +1,9 @@
 -- A step: what it asks of the recolouring, and that it is a round by the rule, after which another can be made.
 -- Assumes nothing.
-use mathlib.Core.Path.{_≡_, refl, ap, sym, subst, _∙_}
+use mathlib.Core.Path.{_≡_, refl, sym, subst, _∙_}
 use mathlib.Core.List.{List}
-use mathlib.Core.Logic.{_≢_}
 use Prim.Native.Nat.{ℕ, _<_}
 use native.Mathlib.Omega.{arith}
-use lib.ListN.{length, drop}
 use Rattle.laws.specs.Row.{at}
 use Rattle.words.specs.declared.Fpga.{Fpga}
 use Rattle.words.specs.declared.Crossbar.{Crossbar}
@@ -14,11 +12,11 @@ use Rattle.board.specs.Job.{jobIn}
 use Rattle.board.specs.Board.{totalExcess, Legal}
 use Rattle.search.specs.declared.Found.{Found}
 use Rattle.search.specs.declared.Found.the-variants as found
-use Rattle.search.specs.Search.{over, searchOf, Named}
+use Rattle.search.specs.Search.{searchOf}
 use Rattle.search.proofs.Answers.{settled-legal, over-lowest, named-if}
 use Rattle.recolour.specs.Recolour.{Asked, RecolouredIn}
 use Rattle.round.specs.Round.{RoundStep}
-use Rattle.round.specs.Start.{Fitting, Ready}
+use Rattle.round.specs.Start.{Ready}
 use Rattle.round.specs.OneRound.{Untouched, StepMemory, Stepped}
 use Rattle.round.proofs.Condition3.{condition3}
 

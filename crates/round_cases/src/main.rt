@@ -4,11 +4,13 @@ use finish::Finish;
 use finish::calls::finish;
 use finish::calls::plan;
 use job::write::write_job;
-use libc::STDOUT_FILENO;
 use round::Round;
 use round::check::check_start;
 use round::one_round;
 use scratch::SCRATCH;
+use scratch::fill;
+use show::number;
+use show::word;
 use tally::count::loads_of;
 use tally::count::totals_of;
 use tally::measure::excess_of;
@@ -20,15 +22,6 @@ use words::Net;
 use words::Refusal;
 use words::Verdict;
 use words::number::wide;
-
-fn word(text: &[u8]) {
-    io::write_all(STDOUT_FILENO, text);
-}
-
-fn number(n: usize) {
-    io::write_all(STDOUT_FILENO, b" ");
-    io::print_decimal(STDOUT_FILENO, n as u64);
-}
 
 fn show_refusal(r: Refusal) {
     let v = Verdict::Refused(r);
@@ -177,92 +170,68 @@ fn write(f: u16, c: u16, n: u16, ends: &[u16], job: &mut [u8]) {
     }
 }
 
-fn case_6() {
+// One round, then finish and plan, each from the assignment that puts every net on crossbar x.
+fn show_from(name: &[u8], job: &[u8], x: u16, a: &mut [u16], s: &mut [u16]) {
+    fill(a, x);
+    show_one(name, job, a, s);
+    fill(a, x);
+    show_finished(name, job, a, s);
+    show_planned(name, job, a, s);
+}
+
+fn case_6(s: &mut [u16]) {
     let mut job = [0u8; 30];
     write(3, 2, 5, &[0u16, 1, 1, 2, 0, 1, 1, 2, 0, 2], &mut job);
-    let mut s = [7u16; 32768];
     let mut a = [0u16, 1, 0, 1, 0];
-    show_one(b"case 6", &job, &mut a, &mut s);
-    show_one(b"case 6", &job, &mut a, &mut s);
+    show_one(b"case 6", &job, &mut a, s);
     let mut b = [0u16, 1, 0, 1, 0];
-    show_finished(b"case 6", &job, &mut b, &mut s);
-    let mut d = [9u16; 5];
-    show_planned(b"case 6", &job, &mut d, &mut s);
+    show_finished(b"case 6", &job, &mut b, s);
+    show_planned(b"case 6", &job, &mut b, s);
 }
 
-fn case_7_job() -> [u8; 34] {
+// Four rounds, of which the last finds nothing to do.
+fn four_rounds(name: &[u8], job: &[u8], a: &mut [u16], s: &mut [u16]) {
+    show_one(name, job, a, s);
+    show_one(name, job, a, s);
+    show_one(name, job, a, s);
+    show_one(name, job, a, s);
+}
+
+fn case_7(s: &mut [u16]) {
     let mut job = [0u8; 34];
     write(2, 3, 6, &[0u16, 1, 0, 1, 0, 1, 0, 1, 0, 1, 0, 1], &mut job);
-    job
-}
-
-fn case_7_rounds() {
-    let job = case_7_job();
-    let mut s = [7u16; 32769];
     let mut a = [1u16; 6];
-    show_one(b"case 7", &job, &mut a, &mut s);
-    show_one(b"case 7", &job, &mut a, &mut s);
-    show_one(b"case 7", &job, &mut a, &mut s);
-    show_one(b"case 7", &job, &mut a, &mut s);
+    four_rounds(b"case 7", &job, &mut a, s);
+    show_from(b"case 7", &job, 1, &mut a, s);
 }
 
-fn case_7() {
-    let job = case_7_job();
-    let mut s = [7u16; 32769];
-    let mut a = [1u16; 6];
-    show_finished(b"case 7", &job, &mut a, &mut s);
-    let mut b = [9u16; 6];
-    show_planned(b"case 7", &job, &mut b, &mut s);
-}
-
-fn case_8() {
+fn case_8(s: &mut [u16]) {
     let mut job = [0u8; 30];
     write(4, 2, 5, &[0u16, 1, 1, 2, 2, 0, 0, 3, 0, 3], &mut job);
-    let mut s = [7u16; 32768];
     let mut a = [0u16; 5];
-    show_one(b"case 8", &job, &mut a, &mut s);
-    let mut b = [0u16; 5];
-    show_finished(b"case 8", &job, &mut b, &mut s);
-    show_planned(b"case 8", &job, &mut b, &mut s);
+    show_from(b"case 8", &job, 0, &mut a, s);
 }
 
-fn case_11() {
-    let mut s = [7u16; 32768];
+fn case_11(s: &mut [u16]) {
+    let mut two = [0u8; 18];
+    write(2, 1, 2, &[0u16, 1, 0, 1], &mut two);
+    let mut a = [0u16; 2];
+    show_from(b"case 11, two nets", &two, 0, &mut a, s);
+    show_from(b"net 0 off the board", &two, 1, &mut a, s);
+}
+
+// Three nets: refused 12, with a crossbar number that is too high as without, but 11 comes before.
+fn three_nets(s: &mut [u16]) {
+    let mut three = [0u8; 22];
+    write(2, 1, 3, &[0u16, 1, 0, 1, 0, 1], &mut three);
     let mut a = [0u16; 3];
-    let mut two = [0u8; 18];
-    write(2, 1, 2, &[0u16, 1, 0, 1], &mut two);
-    show_one(b"case 11, two nets", &two, &mut a, &mut s);
-    show_finished(b"case 11, two nets", &two, &mut a, &mut s);
-    show_planned(b"case 11, two nets", &two, &mut a, &mut s);
-    let mut three = [0u8; 22];
-    write(2, 1, 3, &[0u16, 1, 0, 1, 0, 1], &mut three);
-    let mut dirty = [7u16; 32768];
-    show_one(b"case 11, three nets", &three, &mut a, &mut dirty);
-    show_finished(b"case 11, three nets", &three, &mut a, &mut dirty);
-    show_planned(b"case 11, three nets", &three, &mut a, &mut dirty);
-}
-
-// Of several faults the first is given: 11, then 12, then 13.
-fn refusals() {
-    let mut s = [7u16; 32768];
-    let mut short = [7u16; 32767];
-    let mut a = [5u16; 3];
-    let mut three = [0u8; 22];
-    write(2, 1, 3, &[0u16, 1, 0, 1, 0, 1], &mut three);
-    show_one(b"short scratch", &three, &mut a, &mut short);
+    show_from(b"case 11, three nets", &three, 0, &mut a, s);
+    show_from(b"12 before 13", &three, 1, &mut a, s);
     let mut few = [0u16; 2];
-    show_one(b"short room", &three, &mut few, &mut s);
-    show_planned(b"short room", &three, &mut few, &mut s);
-    show_one(b"12 before 13", &three, &mut a, &mut s);
-    let mut two = [0u8; 18];
-    write(2, 1, 2, &[0u16, 1, 0, 1], &mut two);
-    a[0] = 0;
-    show_finished(b"net 1 off the board", &two, &mut a, &mut s);
-    show_planned(b"net 1 off the board", &two, &mut a, &mut s);
-    show_planned(b"no job", &[0u8; 9], &mut a, &mut s);
+    show_from(b"little room", &three, 1, &mut few, s);
 }
 
-// The ends of the large job: every FPGA is 128 times a first end and 128 times a second.
+// Net i of the large job: every FPGA is 128 times a first end and 128 times a second.
 fn large_ends() -> [u16; 8192] {
     let mut ends = [0u16; 8192];
     let mut i: usize = 0;
@@ -277,25 +246,28 @@ fn large_ends() -> [u16; 8192] {
 }
 
 // 4,096 nets, f 32, c 128, m 2: every degree is 256, the limit, so every load has to become 2.
-fn large() {
+fn large(s: &mut [u16]) {
     let ends = large_ends();
     let mut job = [0u8; 16394];
     write(32, 128, 4096, &ends, &mut job);
-    let mut s = [7u16; 32768];
     let mut a = [9u16; 4096];
     word(b"4096 nets plan:");
-    let r = plan(&job, &mut a, &mut s);
+    let r = plan(&job, &mut a, s);
     show_start(r);
     show_spread(&job, &a);
-    show_scratch(&s);
+    show_scratch(s);
 }
 
 fn main() {
-    case_6();
-    case_7_rounds();
-    case_7();
-    case_8();
-    case_11();
-    refusals();
-    large();
+    let mut s = [7u16; 32769];
+    case_6(&mut s);
+    case_7(&mut s);
+    case_8(&mut s);
+    case_11(&mut s);
+    large(&mut s);
+    // What is refused leaves a scratch as it was.
+    let mut kept = [7u16; 32768];
+    three_nets(&mut kept);
+    let mut short = [7u16; 32767];
+    case_11(&mut short);
 }

@@ -6,42 +6,16 @@ use audit::evidence::evidence;
 use audit::read::read_sheet;
 use audit::write::write_sheet;
 use finish::Finish;
+use job::write::write_job;
 use show::bytes;
 use show::number;
 use show::numbers;
 use show::show_verdict;
 use show::word;
+use words::Crossbar;
+use words::Fpga;
+use words::Net;
 use words::Verdict;
-
-// The job of case 2: a board 3 2 2 with the nets 0-1, 1-2, 2-0 and 0-1.
-const JOB: [u8; 26] = [
-    0,
-    3,
-    0,
-    3,
-    0,
-    2,
-    0,
-    2,
-    0,
-    4,
-    0,
-    0,
-    0,
-    1,
-    0,
-    1,
-    0,
-    2,
-    0,
-    2,
-    0,
-    0,
-    0,
-    0,
-    0,
-    1,
-];
 
 // Plans a job, and shows the rounds and the starting excess, or the refusal.
 fn show_plan(name: &[u8], job: &[u8], plan: &mut [u16], s: &mut [u16]) {
@@ -100,154 +74,91 @@ fn case_1(s: &mut [u16]) {
     show_read(b"case 1, read:", &job, &sheet, &mut plan);
 }
 
-fn case_2(s: &mut [u16]) {
+fn case_2(job: &[u8], s: &mut [u16]) {
     let mut plan = [777u16; 4];
-    show_plan(b"case 2, plan:", &JOB, &mut plan, s);
+    show_plan(b"case 2, plan:", job, &mut plan, s);
     let mut sheet = [255u8; 24];
-    show_write(b"case 2, write:", &JOB, &plan, &mut sheet);
-    show_audit(b"case 2, audit:", &JOB, &sheet);
+    show_write(b"case 2, write:", job, &plan, &mut sheet);
+    show_audit(b"case 2, audit:", job, &sheet);
     let mut list = [777u16; 6];
-    show_read(b"case 2, read:", &JOB, &sheet, &mut list);
-    let mut short = [777u16; 3];
-    show_read(b"case 2, short list:", &JOB, &sheet, &mut short);
+    show_read(b"case 2, read:", job, &sheet, &mut list);
 }
 
-// c 1: settled at once, or refused 12. And a list that is too short for the plan.
+// 11 of plan, reader and writer.
+fn short_lists(job: &[u8], s: &mut [u16]) {
+    let mut list = [777u16; 3];
+    show_plan(b"plan, short list:", job, &mut list, s);
+    let mut sheet = [0u8; 24];
+    write_sheet(job, &[0u16, 1, 0, 1], &mut sheet);
+    show_read(b"reader, short list:", job, &sheet, &mut list);
+    let mut room = [255u8; 23];
+    show_write(b"writer, short room:", job, &[0u16, 1, 0, 1], &mut room);
+}
+
+// c 1: settled at once, or refused 12.
 fn case_3(s: &mut [u16]) {
     let two = [0u8, 3, 0, 2, 0, 1, 0, 2, 0, 2, 0, 0, 0, 1, 0, 0, 0, 1];
     let mut plan = [777u16; 3];
     show_plan(b"case 3, two nets:", &two, &mut plan, s);
-    let three = [
-        0u8,
-        3,
-        0,
-        2,
-        0,
-        1,
-        0,
-        2,
-        0,
-        3,
-        0,
-        0,
-        0,
-        1,
-        0,
-        0,
-        0,
-        1,
-        0,
-        0,
-        0,
-        1,
-    ];
+    let mut three = [0u8; 22];
+    let ends = [0u16, 1, 0, 1, 0, 1];
+    write_job(Fpga(2), Crossbar(1), 2, Net(3), &ends, &mut three);
     let mut list = [777u16; 3];
     show_plan(b"case 3, three nets:", &three, &mut list, s);
-    show_plan(b"short list:", &JOB, &mut list, s);
 }
 
 // What the writer says of an assignment for case 2, with two bytes more than the sheet's.
-fn try_plan(name: &[u8], plan: &[u16]) {
+fn try_plan(name: &[u8], job: &[u8], plan: &[u16]) {
     let mut room = [255u8; 26];
-    show_write(name, &JOB, plan, &mut room);
+    show_write(name, job, plan, &mut room);
 }
 
-fn refused_plans() {
-    try_plan(b"writer, more room:", &[0u16, 1, 0, 1, 777]);
-    try_plan(b"writer, short plan:", &[0u16, 1, 0]);
-    try_plan(b"writer, crossbar 2:", &[0u16, 1, 2, 2]);
-    try_plan(b"writer, FPGA 1 over:", &[1u16, 1, 0, 1]);
-    try_plan(b"writer, FPGA 0 over:", &[1u16, 1, 1, 1]);
-    try_plan(b"writer, totals 1 3:", &[1u16, 1, 1, 0]);
-    let mut short = [255u8; 23];
-    show_write(b"writer, short room:", &JOB, &[0u16, 1, 0, 1], &mut short);
+fn refused_plans(job: &[u8]) {
+    try_plan(b"writer, more room:", job, &[0u16, 1, 0, 1, 777]);
+    try_plan(b"writer, short plan:", job, &[0u16, 1, 0]);
+    try_plan(b"writer, crossbar 2:", job, &[0u16, 1, 2, 2]);
+    try_plan(b"writer, FPGA 1 over:", job, &[1u16, 1, 0, 1]);
+    try_plan(b"writer, FPGA 0 over:", job, &[1u16, 1, 1, 1]);
+    try_plan(b"writer, totals 1 3:", job, &[1u16, 1, 1, 0]);
 }
 
 // What the audit says of case 2's sheet with another byte at i.
-fn try_sheet(name: &[u8], i: usize, byte: u8)
+fn try_sheet(name: &[u8], job: &[u8], i: usize, byte: u8)
     requires { ⌜ i < 24 ⌝ }
 {
-    let mut sheet = [
-        0u8,
-        3,
-        0,
-        3,
-        0,
-        2,
-        0,
-        2,
-        0,
-        4,
-        0,
-        0,
-        0,
-        1,
-        0,
-        0,
-        0,
-        1,
-        0,
-        2,
-        0,
-        2,
-        0,
-        2,
-    ];
+    let mut sheet = [0u8; 24];
+    write_sheet(job, &[0u16, 1, 0, 1], &mut sheet);
     sheet[i] = byte;
-    show_audit(name, &JOB, &sheet);
+    show_audit(name, job, &sheet);
 }
 
 // 22 at each of its six bytes.
-fn refused_counts() {
-    try_sheet(b"audit, count 4:", 1, 4);
-    try_sheet(b"audit, f 5:", 3, 5);
-    try_sheet(b"audit, c 6:", 5, 6);
-    try_sheet(b"audit, m 7:", 7, 7);
-    try_sheet(b"audit, n 260:", 8, 1);
-    try_sheet(b"audit, totals' count 8:", 19, 8);
+fn refused_counts(job: &[u8]) {
+    try_sheet(b"audit, count 4:", job, 1, 4);
+    try_sheet(b"audit, f 5:", job, 3, 5);
+    try_sheet(b"audit, c 6:", job, 5, 6);
+    try_sheet(b"audit, m 7:", job, 7, 7);
+    try_sheet(b"audit, n 260:", job, 8, 1);
+    try_sheet(b"audit, totals' count 8:", job, 19, 8);
 }
 
-fn refused_numbers() {
-    try_sheet(b"audit, net 1 on 2:", 13, 2);
-    try_sheet(b"audit, net 3 on 0:", 17, 0);
-    try_sheet(b"audit, net 0 on 1:", 11, 1);
-    try_sheet(b"audit, net 1 on 0:", 13, 0);
-    try_sheet(b"audit, total 0 is 3:", 21, 3);
-    try_sheet(b"audit, total 1 is 258:", 22, 1);
+fn refused_numbers(job: &[u8]) {
+    try_sheet(b"audit, net 1 on 2:", job, 13, 2);
+    try_sheet(b"audit, net 3 on 0:", job, 17, 0);
+    try_sheet(b"audit, net 0 on 1:", job, 11, 1);
+    try_sheet(b"audit, net 1 on 0:", job, 13, 0);
+    try_sheet(b"audit, total 0 is 3:", job, 21, 3);
+    try_sheet(b"audit, total 1 is 258:", job, 22, 1);
 }
 
-fn refused_lengths() {
-    let sheet = [
-        0u8,
-        3,
-        0,
-        3,
-        0,
-        2,
-        0,
-        2,
-        0,
-        4,
-        0,
-        0,
-        0,
-        1,
-        0,
-        0,
-        0,
-        1,
-        0,
-        2,
-        0,
-        2,
-        0,
-        2,
-        0,
-    ];
-    show_audit(b"audit, one more:", &JOB, &sheet);
-    show_audit(b"audit, one less:", &JOB, &sheet[..23]);
+// A byte too many; and one too few, with all else wrong too.
+fn refused_lengths(job: &[u8]) {
+    let mut sheet = [0u8; 25];
+    write_sheet(job, &[0u16, 1, 0, 1], &mut sheet);
+    show_audit(b"audit, one more:", job, &sheet);
+    show_audit(b"audit, 23 zeros:", job, &[0u8; 23]);
     let mut list = [777u16; 4];
-    show_read(b"reader, one less:", &JOB, &sheet[..23], &mut list);
+    show_read(b"reader, one more:", job, &sheet, &mut list);
 }
 
 // Refusals of the job come first, here with no sheet at all.
@@ -261,14 +172,23 @@ fn refused_jobs() {
     show_audit(b"audit, c 0:", &[0u8, 3, 0, 1, 0, 0, 0, 2, 0, 0], &none);
 }
 
+// What concerns the job of case 2: a board 3 2 2 with the nets 0-1, 1-2, 2-0 and 0-1.
+fn on_case_2(job: &[u8], s: &mut [u16]) {
+    case_2(job, s);
+    short_lists(job, s);
+    refused_plans(job);
+    refused_counts(job);
+    refused_numbers(job);
+    refused_lengths(job);
+}
+
 fn main() {
     let mut s = [777u16; 32768];
     case_1(&mut s);
-    case_2(&mut s);
+    let mut job = [0u8; 26];
+    let ends = [0u16, 1, 1, 2, 2, 0, 0, 1];
+    write_job(Fpga(3), Crossbar(2), 2, Net(4), &ends, &mut job);
+    on_case_2(&job, &mut s);
     case_3(&mut s);
-    refused_plans();
-    refused_counts();
-    refused_numbers();
-    refused_lengths();
     refused_jobs();
 }

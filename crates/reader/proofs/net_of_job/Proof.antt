@@ -75,8 +75,8 @@ module _ {M : Type 1} (𝓤 : URA M) (H : Heap 𝓤) (A : Atoms 𝓤) (mem : Mem
   abbrev Open : Contract 𝓤
   Open = tripleOf 𝓤 H A opened.signature (opened.spec 𝓤 H A mem run)
 
-  abbrev NetC : Contract 𝓤
-  NetC = tripleOf 𝓤 H A net.signature (net.spec 𝓤 H A mem run)
+  abbrev Gives : Contract 𝓤
+  Gives = tripleOf 𝓤 H A net.signature (net.spec 𝓤 H A mem run)
 
 module _ {M : Type 1} (𝓤 : URA M) (H : Heap 𝓤) (A : Atoms 𝓤) (W : Given 𝓤 H A) (mem : Memory → SProp 𝓤) (run : Routine → Fun 𝓤) (κ : Lft) (q : Share) (s : RefT (List ℕ)) (i : Net) (p : Is N.the-row i (N′.lowered i ∷ [])) where
   -- the machine value that s has
@@ -114,10 +114,10 @@ module _ {M : Type 1} (𝓤 : URA M) (H : Heap 𝓤) (A : Atoms 𝓤) (W : Given
   open-said r = exE 𝓤 _ (λ ws. snd∗ 𝓤 (sem 𝓤 H A (lasts opened.ended (κ, tt) (s, tt) ws)) (fact 𝓤 (r ≡ readerOf s)))
 
   -- the call of `net`, at the struct r with the machine value u
-  abbrev to-net : Reader → Val → NetC 𝓤 H A mem run .Ghost
+  abbrev to-net : Reader → Val → Gives 𝓤 H A mem run .Ghost
   to-net r u = (((κ, tt), (q, tt), tt, (r, (i, tt)), (u ∷ [], (N′.lowered i ∷ [], tt))), tt)
 
-  goes-net : (r : Reader) (u : Val) → ent 𝓤 (⋆ 𝓤 H A (‵ (B (κ, tt) .own r (u ∷ [])) ∷ (‵ (flft κ q) ⊛ ‵ ftrue) ∷ [])) (NetC 𝓤 H A mem run .pre (to-net r u))
+  goes-net : (r : Reader) (u : Val) → ent 𝓤 (⋆ 𝓤 H A (‵ (B (κ, tt) .own r (u ∷ [])) ∷ (‵ (flft κ q) ⊛ ‵ ftrue) ∷ [])) (Gives 𝓤 H A mem run .pre (to-net r u))
   goes-net r u = qed W (‵ (B (κ, tt) .own r (u ∷ [])) ∷ (‵ (flft κ q) ⊛ ‵ ftrue) ∷ []) ∵ nothing ! $ owned ! N.the-row (Is N.the-row) (LL.makes N.the-type N′.the-plain 𝓤 H A) i _ p $ fjoin ! $ move ! (1 ∷ 0 ∷ []) $ fjoin ! $ move ! (1 ∷ 0 ∷ []) $ join ! $ frame ! $ done !
 
   net-said : (r : Reader) (t : NetEnds) → ent 𝓤 (ensured 𝓤 H A net.ended (net.clauses 𝓤 H A mem run) (κ, tt) (r, (i, tt)) tt t) (fact 𝓤 (t ≡ netOf (now (r .job)) (r .n .0) (i .0)))
@@ -129,7 +129,7 @@ module _ {M : Type 1} (𝓤 : URA M) (H : Heap 𝓤) (A : Atoms 𝓤) (W : Given
       suffices ! _ (ends-at 𝓤 H A whole.ended stayed (whole.clauses 𝓤 H A mem run) W (((κ, tt), (q, tt), tt, (s, (i, tt)), at), tt) u t (tt, (tt, tt)) (tt, (tt, tt))) $ says ! e $
       move ! (1 ∷ []) $ frame ! $ nothing ! $ owned ! N.the-row (Is N.the-row) (LL.makes N.the-type N′.the-plain 𝓤 H A) i _ p $ fjoin ! $ move ! (2 ∷ 0 ∷ []) $ fjoin ! $ frame ! $ done !
 
-  module _ (C : Calls 𝓤 H) (Λ : Loops 𝓤 H) (fm : FmC 𝓤 H (W .laws) C) (known-open : Triple 𝓤 (C #reader·open) (Open 𝓤 H A mem run)) (known-net : Triple 𝓤 (C #reader·net) (NetC 𝓤 H A mem run)) where
+  module _ (C : Calls 𝓤 H) (Λ : Loops 𝓤 H) (fm : FmC 𝓤 H (W .laws) C) (known-open : Triple 𝓤 (C #reader·open) (Open 𝓤 H A mem run)) (known-net : Triple 𝓤 (C #reader·net) (Gives 𝓤 H A mem run)) where
     walk : Is (ShrSlice (named 0) κ u8) s (v ∷ []) → ent 𝓤 (onEntry 𝓤 H A whole.signature (κ, tt) (q, tt) (s, (i, tt)) at) (WpFn 𝓤 H C Λ code.function (v ∷ N′.lowered i ∷ []) Post)
     walk is-s =
         qed W (raw (onEntry 𝓤 H A whole.signature (κ, tt) (q, tt) (s, (i, tt)) at) ∷ []) ∵ enter ! C Λ code.function (v ∷ N′.lowered i ∷ []) _ $
@@ -141,8 +141,8 @@ module _ {M : Type 1} (𝓤 : URA M) (H : Heap 𝓤) (A : Atoms 𝓤) (W : Given
         -- [what the struct owns; the token; what s owns; room for _3; …; _2; …; _1; …; room for _0; …]
         peeks ! (B (κ, tt)) (Is (B (κ, tt))) (shows 𝓤 H A (B (κ, tt))) r (u ∷ []) (λ is.
         land ! (from ! (stop !)) (init ! 3 refl (LL.lawful (T.the-type αᵉ) (T′.the-laws αᵉ) 𝓤 H A W .typed r _ is .0)) $
-        use2 W (raw (NetC 𝓤 H A mem run .pre (to-net r u))) (goes-net r u) $
-        calls-at ! fm (NetC 𝓤 H A mem run) known-net (to-net r u) (and-then ! (load ! (from ! (stop !)) (look ! 2 refl)) (and-then ! (load ! (from ! (stop !)) (look ! 4 refl)) (no-more !))) (λ u′.
+        use2 W (raw (Gives 𝓤 H A mem run .pre (to-net r u))) (goes-net r u) $
+        calls-at ! fm (Gives 𝓤 H A mem run) known-net (to-net r u) (and-then ! (load ! (from ! (stop !)) (look ! 2 refl)) (and-then ! (load ! (from ! (stop !)) (look ! 4 refl)) (no-more !))) (λ u′.
         use1 W (later (some (λ (t : NetEnds). ((‵ (flft κ q) ⊛ ‵ ftrue) ⊛ ‵ (S.the-row .own t (u′ ∷ []))) ⊛ raw (ensured 𝓤 H A net.ended (net.clauses 𝓤 H A mem run) (κ, tt) (r, (i, tt)) tt t)))) (id⊢ 𝓤 _) $ await ! tt $ pick ! (λ t.
         split ! $ move ! (1 ∷ []) $ use1 W (raw (fact 𝓤 (t ≡ netOf (now (r .job)) (r .n .0) (i .0)))) (net-said r t) $ heard ! (t ≡ netOf (now (r .job)) (r .n .0) (i .0)) (λ e′. split ! $ move ! (1 ∷ []) $
         -- [the result; the token; what s owns; _3; …; _2; …; _1; …; room for _0; …]
@@ -153,13 +153,13 @@ module _ {M : Type 1} (𝓤 : URA M) (H : Heap 𝓤) (A : Atoms 𝓤) (W : Given
         by ! (exits t u′ (e′ ∙ (ap (λ (x : Reader). netOf (now (x .job)) (x .n .0) (i .0)) e ∙ net-by-number (now s) (i .0))))))))))))))))
 
 module _ {M : Type 1} (𝓤 : URA M) (H : Heap 𝓤) (A : Atoms 𝓤) (W : Given 𝓤 H A) (mem : Memory → SProp 𝓤) (run : Routine → Fun 𝓤) where
-  whole-walks : (C : Calls 𝓤 H) (Λ : Loops 𝓤 H) → FmC 𝓤 H (W .laws) C → Triple 𝓤 (C #reader·open) (Open 𝓤 H A mem run) → Triple 𝓤 (C #reader·net) (NetC 𝓤 H A mem run)
+  whole-walks : (C : Calls 𝓤 H) (Λ : Loops 𝓤 H) → FmC 𝓤 H (W .laws) C → Triple 𝓤 (C #reader·open) (Open 𝓤 H A mem run) → Triple 𝓤 (C #reader·net) (Gives 𝓤 H A mem run)
       → Walks 𝓤 H A whole.ended stayed (WpFn 𝓤 H C Λ code.function) (whole.clauses 𝓤 H A mem run)
   whole-walks C Λ fm known-open known-net = walked 𝓤 H A whole.ended stayed (whole.clauses 𝓤 H A mem run) (WpFn 𝓤 H C Λ code.function) (λ κs. (slice-vals, (LL.vals N.the-type N′.the-laws, tt))) (λ κs. (shr-slice-tells (named 0) (κs .0) u8, (LL.tells N.the-type N′.the-laws, tt)))
       (λ κs qs bounds a g are. via 𝓤 _ (fst∗ 𝓤 _ (emp 𝓤)) (walk 𝓤 H A W mem run (κs .0) (qs .0) (a .0) (a .1 .0) (are .1 .0) C Λ fm known-open known-net (are .0)))
 
 whole-meets : {M : Type 1} (𝓤 : URA M) (H : Heap 𝓤) (A : Atoms 𝓤) (W : Given 𝓤 H A) (mem : Memory → SProp 𝓤) (run : Routine → Fun 𝓤) (𝓣 : Tables 𝓤 H)
-    → Triple 𝓤 (𝓣 .C #reader·open) (Open 𝓤 H A mem run) → Triple 𝓤 (𝓣 .C #reader·net) (NetC 𝓤 H A mem run)
+    → Triple 𝓤 (𝓣 .C #reader·open) (Open 𝓤 H A mem run) → Triple 𝓤 (𝓣 .C #reader·net) (Gives 𝓤 H A mem run)
     → Meets 𝓤 H A whole.signature (WpFn 𝓤 H (𝓣 .C) (𝓣 .Λ) code.function) (whole.spec 𝓤 H A mem run)
 whole-meets 𝓤 H A W mem run 𝓣 known-open known-net = walk-meets 𝓤 H A whole.ended stayed W (goes-none-slice 𝓤 H A W 1 (0 ∷ []) tt (plain (λ _. u8)) yes, (goes-none 𝓤 H A W 1 (λ _. N.the-row) yes (λ κs x f. refl), tt)) (whole.clauses 𝓤 H A mem run) (WpFn 𝓤 H (𝓣 .C) (𝓣 .Λ) code.function) (WpFn-mono 𝓤 H (W .laws) 𝓣 code.function)
     (whole-walks 𝓤 H A W mem run (𝓣 .C) (𝓣 .Λ) (fmOf 𝓤 H (W .laws) 𝓣) known-open known-net)
@@ -171,4 +171,4 @@ net-of-job-spec 𝓤 H 𝓜 𝓖 𝓡 =
     (tables 𝓤 H 𝓜 𝓡 code.env .C) (tables 𝓤 H 𝓜 𝓡 code.env .Λ) #reader·net-of-job code.function (code.unfolded 𝓤 H 𝓜 𝓡)
     (whole-meets 𝓤 H (𝓖 .A) (givenOf 𝓤 H 𝓜 𝓖) (𝓜 .mem) (𝓡 .run) (tablesOf 𝓤 H 𝓜 (tables 𝓤 H 𝓜 𝓡 code.env))
     (cited 𝓤 H (Open 𝓤 H (𝓖 .A) (𝓜 .mem) (𝓡 .run)) 𝓜 𝓡 code.env #reader·open open-def.routine code.calls-reader·open (open-thm.met 𝓤 H 𝓜 𝓖 𝓡))
-    (cited 𝓤 H (NetC 𝓤 H (𝓖 .A) (𝓜 .mem) (𝓡 .run)) 𝓜 𝓡 code.env #reader·net net-def.routine code.calls-reader·net (net-thm.met 𝓤 H 𝓜 𝓖 𝓡)))
+    (cited 𝓤 H (Gives 𝓤 H (𝓖 .A) (𝓜 .mem) (𝓡 .run)) 𝓜 𝓡 code.env #reader·net net-def.routine code.calls-reader·net (net-thm.met 𝓤 H 𝓜 𝓖 𝓡)))

@@ -1,5 +1,5 @@
--- `reader::open` meets its contract: a walk of its MIR, by hand. `numbers_of` is called on the slice, and a `Reader` is made of the slice and the four numbers of its answer.
--- A `&[u8]` is Copy, so what it owns is had as often as it is wanted: for the call, for job at exit, and inside the result.
+-- `reader::open` meets its contract: a walk of its MIR, by hand. `numbers_of` is called on the slice, and a `Reader` is made of the slice and the four numbers of its answer. All that the proof knows of `numbers_of` is that it meets its contract.
+-- A `&[u8]` is Copy, so what it owns is had as often as it is wanted: for the call, for job at exit, and inside the result, beside what the numbers own.
 -- Assumes nothing.
 use mathlib.Core.Path.{_≡_, refl, ap, subst}
 use Prim.Native.Nat.{ℕ}
@@ -48,10 +48,10 @@ use Rattle.reader.proofs.Reader as T
 use Rattle.reader.proofs.Reader.Laws as T′
 use Rattle.reader.proofs.Numbers as S
 use Rattle.reader.proofs.Numbers.Laws as S′
-use Rattle.reader.proofs.numbers_of as head
-use Rattle.reader.proofs.numbers_of.Symbol as head-def
+use Rattle.reader.proofs.numbers_of as callee
+use Rattle.reader.proofs.numbers_of.Symbol as callee-def
 use Rattle.reader.proofs.numbers_of.Symbol.{name as #reader·numbers-of}
-use Rattle.reader.proofs.numbers_of.Met as head-thm
+use Rattle.reader.proofs.numbers_of.Met as callee-thm
 use Rattle.reader.proofs.open.Key.{name as #reader·open}
 use Rattle.reader.proofs.open as opened
 use Rattle.reader.proofs.open.Statement as stated
@@ -63,7 +63,7 @@ stayed = (stay-none-slice (0 ∷ []) tt (plain (λ _. u8)) yes, tt)
 module _ {M : Type 1} (𝓤 : URA M) (H : Heap 𝓤) (A : Atoms 𝓤) (mem : Memory → SProp 𝓤) (run : Routine → Fun 𝓤) where
   -- the contract that the proof cites
   abbrev NumbersOf : Contract 𝓤
-  NumbersOf = tripleOf 𝓤 H A head.signature (head.spec 𝓤 H A mem run)
+  NumbersOf = tripleOf 𝓤 H A callee.signature (callee.spec 𝓤 H A mem run)
 
 -- the reader that the code makes
 abbrev with : RefT (List ℕ) → Numbers → Reader
@@ -93,7 +93,7 @@ module _ {M : Type 1} (𝓤 : URA M) (H : Heap 𝓤) (A : Atoms 𝓤) (W : Given
   abbrev to : NumbersOf 𝓤 H A mem run .Ghost
   to = (((κ, tt), (q, tt), tt, (s, tt), at), tt)
 
-  asked : ent 𝓤 (onEntry 𝓤 H A head.signature (κ, tt) (q, tt) (s, tt) at) (NumbersOf 𝓤 H A mem run .pre to)
+  asked : ent 𝓤 (onEntry 𝓤 H A callee.signature (κ, tt) (q, tt) (s, tt) at) (NumbersOf 𝓤 H A mem run .pre to)
   asked = qed W ((‵ (flft κ q) ⊛ ‵ ftrue) ∷ ‵ (owns (ShrSlice (named 0) κ u8 ∷ []) (s, tt) at) ∷ []) ∵ join ! $ frame ! $ done !
 
   -- what the slice owns gives what the callee asks, and is kept
@@ -105,8 +105,8 @@ module _ {M : Type 1} (𝓤 : URA M) (H : Heap 𝓤) (A : Atoms 𝓤) (W : Given
       move ! (0 ∷ 2 ∷ []) $ fjoin ! $ move ! (2 ∷ 0 ∷ []) $ use2 W (raw (NumbersOf 𝓤 H A mem run .pre to)) asked $ frame ! $ done !
 
   -- of the callee's `ensured`, the clause alone: it has no `&mut`, so what is said of last values is dropped
-  said : (h : Numbers) → ent 𝓤 (ensured 𝓤 H A head.ended (head.clauses 𝓤 H A mem run) (κ, tt) (s, tt) tt h) (fact 𝓤 (h ≡ numbersOf (boardOf (now s))))
-  said h = exE 𝓤 _ (λ ws. snd∗ 𝓤 (sem 𝓤 H A (lasts head.ended (κ, tt) (s, tt) ws)) (fact 𝓤 (h ≡ numbersOf (boardOf (now s)))))
+  said : (h : Numbers) → ent 𝓤 (ensured 𝓤 H A callee.ended (callee.clauses 𝓤 H A mem run) (κ, tt) (s, tt) tt h) (fact 𝓤 (h ≡ numbersOf (boardOf (now s))))
+  said h = exE 𝓤 _ (λ ws. snd∗ 𝓤 (sem 𝓤 H A (lasts callee.ended (κ, tt) (s, tt) ws)) (fact 𝓤 (h ≡ numbersOf (boardOf (now s)))))
 
   exits : (h : Numbers) (u : Val) → h ≡ numbersOf (boardOf (now s)) → ent 𝓤 (⋆ 𝓤 H A (‵ (S.the-row .own h (u ∷ [])) ∷ (‵ (flft κ q) ⊛ ‵ ftrue) ∷ ‵ Own ∷ [])) (Post (T′.lowered (with s h)))
   exits h u e =
@@ -118,7 +118,7 @@ module _ {M : Type 1} (𝓤 : URA M) (H : Heap 𝓤) (A : Atoms 𝓤) (W : Given
       move ! (1 ∷ 0 ∷ []) $ fjoin ! $ by ! (own-shut 𝓤 H A W (T.the-type α) (T′.the-laws α) (s, values h)))
 
   module _ (C : Calls 𝓤 H) (Λ : Loops 𝓤 H) (fm : FmC 𝓤 H (W .laws) C) (known : Triple 𝓤 (C #reader·numbers-of) (NumbersOf 𝓤 H A mem run)) where
-    -- that a head's machine value is typed, at the value that its record spells
+    -- that the numbers' machine value is typed, at the value that its record spells
     typed : (h : Numbers) (u : Val) → Is S.the-row h (u ∷ []) → Holds (hasTy S′.mir (S′.lowered h)) × WT (S′.lowered h)
     typed h u is = LL.lawful S.the-type S′.the-laws 𝓤 H A W .typed h _ (subst (Is S.the-row h) (LL.tells S.the-type S′.the-laws h (u ∷ []) is) is) .0
 
@@ -129,7 +129,7 @@ module _ {M : Type 1} (𝓤 : URA M) (H : Heap 𝓤) (A : Atoms 𝓤) (W : Given
         move ! (6 ∷ []) $ use1 W (raw (NumbersOf 𝓤 H A mem run .pre to) ⊛ ‵ Own) apart $ split ! $
         -- [what the callee asks; what s owns; room for _2; …; _1; …; room for _0; …]
         calls-at ! fm (NumbersOf 𝓤 H A mem run) known to (and-then ! (load ! (from ! (stop !)) (look ! 4 refl)) (no-more !)) (λ u.
-        use1 W (later (some (λ (h : Numbers). ((‵ (flft κ q) ⊛ ‵ ftrue) ⊛ ‵ (S.the-row .own h (u ∷ []))) ⊛ raw (ensured 𝓤 H A head.ended (head.clauses 𝓤 H A mem run) (κ, tt) (s, tt) tt h)))) (id⊢ 𝓤 _) $ await ! tt $ pick ! (λ h.
+        use1 W (later (some (λ (h : Numbers). ((‵ (flft κ q) ⊛ ‵ ftrue) ⊛ ‵ (S.the-row .own h (u ∷ []))) ⊛ raw (ensured 𝓤 H A callee.ended (callee.clauses 𝓤 H A mem run) (κ, tt) (s, tt) tt h)))) (id⊢ 𝓤 _) $ await ! tt $ pick ! (λ h.
         split ! $ move ! (1 ∷ []) $ use1 W (raw (fact 𝓤 (h ≡ numbersOf (boardOf (now s))))) (said h) $ heard ! (h ≡ numbersOf (boardOf (now s))) (λ e. split ! $ move ! (1 ∷ []) $
         -- [the result; the token; what s owns; room for _2; …; _1; …; room for _0; …]
         peeks ! S.the-row (Is S.the-row) (shows 𝓤 H A S.the-row) h (u ∷ []) (λ is.
@@ -149,8 +149,8 @@ module _ {M : Type 1} (𝓤 : URA M) (H : Heap 𝓤) (A : Atoms 𝓤) (W : Given
 open-meets : {M : Type 1} (𝓤 : URA M) (H : Heap 𝓤) (A : Atoms 𝓤) (W : Given 𝓤 H A) (mem : Memory → SProp 𝓤) (run : Routine → Fun 𝓤) (𝓣 : Tables 𝓤 H)
     → Triple 𝓤 (𝓣 .C #reader·numbers-of) (NumbersOf 𝓤 H A mem run)
     → Meets 𝓤 H A opened.signature (WpFn 𝓤 H (𝓣 .C) (𝓣 .Λ) code.function) (opened.spec 𝓤 H A mem run)
-open-meets 𝓤 H A W mem run 𝓣 known-head = walk-meets 𝓤 H A opened.ended stayed W (goes-none-slice 𝓤 H A W 1 (0 ∷ []) tt (plain (λ _. u8)) yes, tt) (opened.clauses 𝓤 H A mem run) (WpFn 𝓤 H (𝓣 .C) (𝓣 .Λ) code.function) (WpFn-mono 𝓤 H (W .laws) 𝓣 code.function)
-    (open-walks 𝓤 H A W mem run (𝓣 .C) (𝓣 .Λ) (fmOf 𝓤 H (W .laws) 𝓣) known-head)
+open-meets 𝓤 H A W mem run 𝓣 known-callee = walk-meets 𝓤 H A opened.ended stayed W (goes-none-slice 𝓤 H A W 1 (0 ∷ []) tt (plain (λ _. u8)) yes, tt) (opened.clauses 𝓤 H A mem run) (WpFn 𝓤 H (𝓣 .C) (𝓣 .Λ) code.function) (WpFn-mono 𝓤 H (W .laws) 𝓣 code.function)
+    (open-walks 𝓤 H A W mem run (𝓣 .C) (𝓣 .Λ) (fmOf 𝓤 H (W .laws) 𝓣) known-callee)
 
 pub open-spec : {M : Type 1} → stated.statement M
 unfolding code.routine tablesOf
@@ -158,4 +158,4 @@ open-spec 𝓤 H 𝓜 𝓖 𝓡 =
     entered 𝓤 H (tripleOf 𝓤 H (𝓖 .A) opened.signature (opened.spec 𝓤 H (𝓖 .A) (𝓜 .mem) (𝓡 .run)))
     (tables 𝓤 H 𝓜 𝓡 code.env .C) (tables 𝓤 H 𝓜 𝓡 code.env .Λ) #reader·open code.function (code.unfolded 𝓤 H 𝓜 𝓡)
     (open-meets 𝓤 H (𝓖 .A) (givenOf 𝓤 H 𝓜 𝓖) (𝓜 .mem) (𝓡 .run) (tablesOf 𝓤 H 𝓜 (tables 𝓤 H 𝓜 𝓡 code.env))
-    (cited 𝓤 H (NumbersOf 𝓤 H (𝓖 .A) (𝓜 .mem) (𝓡 .run)) 𝓜 𝓡 code.env #reader·numbers-of head-def.routine code.calls-reader·numbers-of (head-thm.met 𝓤 H 𝓜 𝓖 𝓡)))
+    (cited 𝓤 H (NumbersOf 𝓤 H (𝓖 .A) (𝓜 .mem) (𝓡 .run)) 𝓜 𝓡 code.env #reader·numbers-of callee-def.routine code.calls-reader·numbers-of (callee-thm.met 𝓤 H 𝓜 𝓖 𝓡)))

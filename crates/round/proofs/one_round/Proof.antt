@@ -1,5 +1,4 @@
 -- `round::one_round` meets its contract.
-use mathlib.Core.Path.{sym, _∙_}
 use native.Mathlib.Omega.{arith}
 use Rattle.round.proofs.Calling.{one-refused, start-ready, one-settled, one-moved}
 use borrow.Author.Needs.{needs}

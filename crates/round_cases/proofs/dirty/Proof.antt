@@ -1,11 +1,9 @@
+-- `round_cases::dirty` meets its contract.
 use lib.ListN.{length}
 use Prim.Native.Nat.{_≤_, _-_}
 use borrow.Author.Needs.{needs}
-use native.Mathlib.Omega.{arith}
 use Rattle.round_cases.proofs.dirty.Statement.{statement}
 use Rattle.round_cases.proofs.dirty.Tie as tie
-use Rattle.round_cases.proofs.dirty.Reads as reads
-use Rattle.round_cases.proofs.dirty.Lts as lts
 
 abbrev Inv-loop : tie.InvT-loop
 Inv-loop s count₀ i₀ count i = (i ≤ length s) × (count ≤ i)
@@ -13,43 +11,33 @@ Inv-loop s count₀ i₀ count i = (i ≤ length s) × (count ≤ i)
 abbrev μ-loop : tie.MeasureT-loop
 μ-loop s count₀ i₀ count i = length s - i
 
--- src/main.rt:94:5
 loop-holds : tie.Need-loop-holds Inv-loop μ-loop
 loop-holds c = search needs
 
--- src/main.rt:95:24
 mul-not-zero : tie.Need-mul-not-zero Inv-loop μ-loop
 mul-not-zero c = search needs
 
--- src/main.rt:95:24
 shared-slice-read-not-zero : tie.Need-shared-slice-read-not-zero Inv-loop μ-loop
 shared-slice-read-not-zero c = search needs
 
--- src/main.rt:96:9
 add-i : tie.Need-add-i Inv-loop μ-loop
 add-i c = search needs
 
--- src/main.rt:98:13
 add-count : tie.Need-add-count Inv-loop μ-loop
 add-count c = search needs
 
--- src/main.rt:94:5
 loop-less : tie.Need-loop-less Inv-loop μ-loop
 loop-less c = search needs
 
--- src/main.rt:94:5
 loop-again : tie.Need-loop-again Inv-loop μ-loop
 loop-again c = search needs
 
--- src/main.rt:94:5
 loop-less-2 : tie.Need-loop-less-2 Inv-loop μ-loop
 loop-less-2 c = search needs
 
--- src/main.rt:94:5
 loop-again-2 : tie.Need-loop-again-2 Inv-loop μ-loop
 loop-again-2 c = search needs
 
--- src/main.rt:91:1
 returns : tie.Need-returns Inv-loop μ-loop
 returns c = search needs
 

@@ -1,86 +1,60 @@
+-- `round_cases::show_board` meets its contract.
 use Rattle.round_cases.proofs.Measuring.{measured, few, counted, on-board}
 use borrow.Author.Needs.{needs}
 use Rattle.round_cases.proofs.show_board.Statement.{statement}
 use Rattle.round_cases.proofs.show_board.Tie as tie
-use Rattle.round_cases.proofs.show_board.Reads as reads
-use Rattle.round_cases.proofs.show_board.Lts as lts
-use Rattle.round.proofs.check.check_start.Reads as check-start-reads
-use Rattle.round_cases.proofs.number.Reads as number-reads
-use Rattle.round_cases.proofs.show_counts.Reads as show-counts-reads
-use Rattle.round_cases.proofs.show_refusal.Reads as show-refusal-reads
-use Rattle.round_cases.proofs.word.Reads as word-reads
-use Rattle.tally.proofs.count.loads_of.Reads as loads-of-reads
-use Rattle.tally.proofs.count.totals_of.Reads as totals-of-reads
-use Rattle.tally.proofs.measure.excess_of.Reads as excess-of-reads
 
--- src/main.rt:112:9
 check-start-requires : tie.Need-check-start-requires
 check-start-requires c κs = search needs
 
--- src/main.rt:114:29
 enum-known-verdict : tie.Need-enum-known-verdict
 enum-known-verdict c = search needs
 
--- src/main.rt:115:9
 show-refusal-requires : tie.Need-show-refusal-requires
 show-refusal-requires c κs = search needs
 
--- src/main.rt:116:9
 returns : tie.Need-returns
 returns c = search needs
 
 enum-told : tie.Need-enum-told
 enum-told c = search needs
 
--- src/main.rt:119:10
 slice-aggregate-word : tie.Need-slice-aggregate-word
 slice-aggregate-word c = search needs
 
--- src/main.rt:119:5
 word-requires : tie.Need-word-requires
 word-requires c κs = search needs
 
--- src/main.rt:120:12
 excess-of-requires : tie.Need-excess-of-requires
 excess-of-requires c κs = measured _ _ _ _ (c .before .before .before .before .before .check-start .ensures) (c .before .before .before .enum-told .given .1)
 
--- src/main.rt:120:5
 number-requires : tie.Need-number-requires
 number-requires c κs = search needs
 
--- src/main.rt:121:10
 slice-aggregate-word-2 : tie.Need-slice-aggregate-word-2
 slice-aggregate-word-2 c = search needs
 
--- src/main.rt:121:5
 word-requires-2 : tie.Need-word-requires-2
 word-requires-2 c κs = search needs
 
--- src/main.rt:122:17
 totals-of-requires : tie.Need-totals-of-requires
 totals-of-requires c κs = (few _ _ _ _ (c .before .before .before .before .before .before .before .before .before .check-start .ensures) (c .before .before .before .before .before .before .before .enum-told .given .1), counted _ _ _ _ (c .before .before .before .before .before .before .before .before .before .check-start .ensures) (c .before .before .before .before .before .before .before .enum-told .given .1))
 
--- src/main.rt:122:5
 show-counts-requires : tie.Need-show-counts-requires
 show-counts-requires c κs = search needs
 
--- src/main.rt:123:10
 slice-aggregate-word-3 : tie.Need-slice-aggregate-word-3
 slice-aggregate-word-3 c = search needs
 
--- src/main.rt:123:5
 word-requires-3 : tie.Need-word-requires-3
 word-requires-3 c κs = search needs
 
--- src/main.rt:124:17
 loads-of-requires : tie.Need-loads-of-requires
 loads-of-requires c κs = (measured _ _ _ _ (c .before .before .before .before .before .before .before .before .before .before .before .before .before .check-start .ensures) (c .before .before .before .before .before .before .before .before .before .before .before .enum-told .given .1), on-board _ _ _ _ (c .before .before .before .before .before .before .before .before .before .before .before .before .before .check-start .ensures) (c .before .before .before .before .before .before .before .before .before .before .before .enum-told .given .1))
 
--- src/main.rt:124:5
 show-counts-requires-2 : tie.Need-show-counts-requires-2
 show-counts-requires-2 c κs = search needs
 
--- src/main.rt:111:1
 returns-2 : tie.Need-returns-2
 returns-2 c = search needs
 

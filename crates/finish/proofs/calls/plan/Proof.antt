@@ -1,5 +1,6 @@
 -- `finish::calls::plan` meets its contract.
-use Rattle.finish.proofs.Answering.{plan-refused, deal-fits, plan-ready, plan-done}
+use native.Mathlib.Omega.{arith}
+use Rattle.finish.proofs.Answering.{plan-refused, plan-fitting, plan-ready, plan-done}
 use borrow.Author.Needs.{needs}
 use Rattle.finish.proofs.calls.plan.Statement.{statement}
 use Rattle.finish.proofs.calls.plan.Tie as tie
@@ -17,7 +18,8 @@ enum-told : tie.Need-enum-told
 enum-told c = search needs
 
 deal-requires : tie.Need-deal-requires
-deal-requires c κs = deal-fits _ (c .before .before .before .before .before .before .before .before .args .plan .now) (c .before .before .before .before .before .before .before .before .args .s .now) _ (c .before .before .before .before .check-plan .ensures) (c .before .before .enum-told .given .1)
+deal-requires c κs = let f = plan-fitting _ (c .before .before .before .before .before .before .before .before .args .plan .now) (c .before .before .before .before .before .before .before .before .args .s .now) _ (c .before .before .before .before .check-plan .ensures) (c .before .before .enum-told .given .1) in
+    (f .every-net, omega (arith, f .passed .ranged), omega (arith, f .passed .ranged))
 
 settle-requires : tie.Need-settle-requires
 settle-requires c κs = plan-ready _ _ _ _ (c .before .before .before .before .before .before .before .before .before .check-plan .ensures) (c .before .before .before .before .before .before .before .enum-told .given .1) _ (c .before .before .before .before .deal .ensures)

@@ -1,12 +1,12 @@
 -- `finish::deal::deal` meets its contract.
-use mathlib.Core.Path.{_≡_, refl, sym, _∙_, ap}
+use native.Mathlib.Nat.{mod-lt, lt-of-lt-of-le}
+use mathlib.Core.Path.{_≡_, refl}
 use lib.ListN.{length}
 use Prim.Native.Nat.{_≤_, _-_}
 use borrow.Author.Needs.{needs}
-use native.Mathlib.Nat.{mod-lt}
 use native.Mathlib.Omega.{arith}
 use Rattle.finish.specs.Plan.{dealtOver}
-use Rattle.finish.proofs.Dealing.{dealt-none, dealt-more, dealt-long}
+use Rattle.finish.proofs.Dealing.{dealt-none, dealt-more}
 use Rattle.finish.proofs.deal.deal.Statement.{statement}
 use Rattle.finish.proofs.deal.deal.Tie as tie
 
@@ -23,7 +23,7 @@ rem-plan : tie.Need-rem-plan Inv-loop μ-loop
 rem-plan c = search needs
 
 cast-plan : tie.Need-cast-plan Inv-loop μ-loop
-cast-plan c = record { fits = omega (arith, mod-lt (c .before .loop .i) (c .before .before .pre .1)) }
+cast-plan c = record { fits = lt-of-lt-of-le (mod-lt _ (c .before .before .pre .1)) (omega arith) }
 
 mul-plan : tie.Need-mul-plan Inv-loop μ-loop
 mul-plan c = search needs

@@ -1,6 +1,5 @@
 -- `round::check::check_start` meets its contract.
 use mathlib.Core.Path.{ap, sym, _∙_}
-use native.Mathlib.Omega.{arith}
 use Rattle.round.proofs.Starting.{round-stops, round-goes-on, fitting}
 use Rattle.job.specs.declared.Checked.{Checked}
 use borrow.Author.Needs.{needs}
