@@ -19,7 +19,7 @@ use Rattle.board.proofs.Excess.{totalExcess-at-most}
 use Rattle.scratch.specs.Scratch.{scratchLong}
 use Rattle.round.specs.Degree.{WithinLimits}
 use Rattle.round.specs.Round.{ImprovesBy, Planned}
-use Rattle.round.specs.Start.{roundVerdict}
+use Rattle.round.specs.Start.{planVerdict, roundVerdict}
 use Rattle.round.specs.OneRound.{Untouched}
 use Rattle.round.proofs.Starting.{ready}
 use Rattle.round.proofs.Chains.{chain-improves, chain-short}
