@@ -12,12 +12,10 @@ use Rattle.words.specs.Lent.{Stretch}
 use Rattle.job.specs.Job.{netsAt}
 use Rattle.words.specs.Verdict.{numberOf, pOf}
 use Rattle.job.specs.declared.Checked.{Checked}
-use Rattle.job.specs.Check.{boardOf}
-use Rattle.sheet.specs.Audit.{auditVerdict}
 use Rattle.audit.specs.Answer.{auditedOf}
 use Rattle.sheet.specs.declared.Fault.{Fault}
 use Rattle.sheet.specs.Sheet.{numbersAt, totalsAt}
-use Rattle.sheet.specs.Evidence.{inJob, inSheet, faultAt, faultOf, EvidenceOf}
+use Rattle.sheet.specs.Evidence.{inJob, inSheet, faultAt, auditFault, EvidenceOf}
 
 module _ (n k p : ℕ) where
   pub at-nine : k ≡ 9 → faultAt n k p ≡ inJob (netsAt + 4 * p) 4
@@ -58,7 +56,7 @@ module _ (e : Fault) (s j : List ℕ) (inside : e .start + e .long ≤ length (c
 
 -- the fault that is found is the verdict's
 pub fault-is : (job sheet : List ℕ) (k : Checked) (number p : ℕ) → k ≡ auditedOf job sheet → number ≡ numberOf (k .verdict) → p ≡ pOf (k .verdict)
-    → faultAt (k .board .n) number p ≡ faultOf (boardOf job .n) (auditVerdict job sheet)
+    → faultAt (k .board .n) number p ≡ auditFault job sheet
 fault-is job sheet k number p e a b = rw (a, b, e)
 
 -- the stretch that is handed back, of the one file or the other

@@ -3,7 +3,7 @@ ghost use mathlib.Core.Path.{_≡_};
 ghost use Prim.Native.Nat.{_+_, _^_, _≤_, _<_};
 ghost use lib.ListN.{length};
 ghost use Rattle.words.specs.Lent.{Stretch};
-ghost use Rattle.sheet.specs.Evidence.{inJob, inSheet, faultAt, Evidence};
+ghost use Rattle.sheet.specs.Evidence.{inJob, inSheet, faultAt, auditFault, Evidence};
 use crate::audit::audit_job;
 use job::NETS_AT;
 use sheet::Fault;
@@ -63,13 +63,20 @@ fn stretch(s: &[u8], start: usize, long: usize) -> &[u8]
     &s[start..start + long]
 }
 
-// The stretch of the caller's job or sheet that the audit finds at fault, or the empty start of the job.
-pub fn evidence<'a>(job: &'a [u8], sheet: &'a [u8]) -> &'a [u8]
-    ensures { λ r. ⌜ Evidence (job .entry) (sheet .entry) r ⌝ }
+// Which bytes the audit finds at fault.
+pub fn find_fault(job: &[u8], sheet: &[u8]) -> Fault
+    ensures { λ r. ⌜ r ≡ auditFault (now (job .entry)) (now (sheet .entry)) ⌝ }
 {
     let found = audit_job(job, sheet);
     let verdict = found.verdict;
-    let fault = fault_of(found.board.n, number_of(verdict), p_of(verdict));
+    fault_of(found.board.n, number_of(verdict), p_of(verdict))
+}
+
+// Those bytes themselves, as the caller's own stretch of job or sheet.
+pub fn evidence<'a>(job: &'a [u8], sheet: &'a [u8]) -> &'a [u8]
+    ensures { λ r. ⌜ Evidence (job .entry) (sheet .entry) r ⌝ }
+{
+    let fault = find_fault(job, sheet);
     if fault.sheet {
         return stretch(sheet, fault.start, fault.long);
     }

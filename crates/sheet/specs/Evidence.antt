@@ -32,9 +32,13 @@ faultAt n k p =
 abbrev pub faultOf : ℕ → Verdict → Fault
 faultOf n v = faultAt n (numberOf v) (pOf v)
 
+-- what the audit of a sheet against a job finds at fault
+abbrev pub auditFault : List ℕ → List ℕ → Fault
+auditFault job sheet = faultOf (boardOf job .n) (auditVerdict job sheet)
+
 -- r is that stretch of the caller's own bytes
 abbrev pub EvidenceOf : Fault → RefT (List ℕ) → RefT (List ℕ) → RefT (List ℕ) → Type 0
 EvidenceOf e job sheet r = Stretch (cond (e .sheet) sheet job) (e .start) (e .long) r
 
 abbrev pub Evidence : RefT (List ℕ) → RefT (List ℕ) → RefT (List ℕ) → Type 0
-Evidence job sheet r = EvidenceOf (faultOf (boardOf (now job) .n) (auditVerdict (now job) (now sheet))) job sheet r
+Evidence job sheet r = EvidenceOf (auditFault (now job) (now sheet)) job sheet r

@@ -1,0 +1,2 @@
+-- The answers as C programs get them.
+pub mod InC

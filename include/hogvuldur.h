@@ -1,0 +1,175 @@
+/*
+ * hogvuldur.h: nets to crossbars of a logic emulator board, for C programs.
+ *
+ * A board has f FPGAs and c crossbars, each numbered from 0, and m wires from each FPGA to each
+ * crossbar. A job adds n nets, numbered from 0, each between two different FPGAs. An assignment
+ * gives each net its crossbar. Planned assignments never put more than m nets of one FPGA on one
+ * crossbar, and the crossbars' totals are within one of each other.
+ *
+ * Link with libhogvuldur.a (x86-64 Linux). Every call is proved to meet its contract for every
+ * input that keeps to the rules of memory below.
+ *
+ * FILES. All numbers are two bytes, high byte first.
+ *   job    3, f, c, m, n, then n pairs of FPGA numbers                  10 + 4n bytes
+ *   sheet  3, f, c, m, n, then n crossbar numbers, c, then c totals     12 + 2n + 2c bytes
+ *
+ * MEMORY. The caller owns all of it. The library allocates nothing, keeps no pointer after a call
+ * returns and has no state: calls on different memory may run at the same time.
+ *   - A lent list or file is a pointer and how many elements it has. The pointer is aligned and
+ *     not null, for no elements too; `const` memory is only read.
+ *   - What a call writes to (room, assignment, scratch, answer) overlaps nothing else it is lent.
+ *   - Scratch is at least HOGVULDUR_SCRATCH numbers. It may hold anything; after an accepted call
+ *     the first HOGVULDUR_SCRATCH of them are zero.
+ *   - After a refusal all lent memory is as it was, but for the answer. After an accepted call only
+ *     the bytes named below are written; room beyond them is as it was.
+ *
+ * ANSWERS. A call that can refuse returns HOGVULDUR_DONE or the refusal's number, and always
+ * writes all four numbers of `answer`: after a refusal p, q, 0, 0; otherwise what the call says,
+ * filled up with zeros.
+ *
+ * REFUSALS, in the order in which they are checked, with p (q is 0 but for 24):
+ *    1  job shorter than 10 bytes: its length
+ *    2  board count is not 3: byte 0
+ *    3  f outside 1 to 256: byte 2
+ *    4  c outside 1 to 128: byte 4
+ *    5  m is 0 or above 64: byte 6
+ *    6  m odd: byte 6
+ *    7  n above 4,096: byte 8
+ *    1  job shorter than 10 + 4n: its length
+ *    8  job longer than 10 + 4n: byte 10 + 4n
+ *    9  a net names an FPGA at or above f: the net
+ *   10  a net has the same FPGA twice: the net (nets in order, each for 9 and then 10)
+ *   11  a lent buffer is too short: 0
+ *   12  some FPGA has more than m times c nets: lowest such FPGA
+ *   13  a crossbar number in a lent assignment at or above c: lowest such net
+ *   21  sheet length is not 12 + 2n + 2c: its length
+ *   22  a sheet count, f, c or m differs from the job: byte of the first
+ *   23  a sheet's crossbar number at or above c: lowest such net
+ *   24  a load above m: p the lowest FPGA, q the lowest crossbar there
+ *   25  totals more than 1 apart: lowest crossbar 2 or more below the greatest
+ *   26  a written total is wrong: lowest such crossbar
+ */
+#ifndef HOGVULDUR_H
+#define HOGVULDUR_H
+
+#include <stddef.h>
+#include <stdint.h>
+
+#ifdef __cplusplus
+extern "C" {
+#endif
+
+#define HOGVULDUR_MOST_FPGAS 256
+#define HOGVULDUR_MOST_CROSSBARS 128
+#define HOGVULDUR_MOST_WIRES 64
+#define HOGVULDUR_MOST_NETS 4096
+
+/* The least length of scratch, in numbers of two bytes. */
+#define HOGVULDUR_SCRATCH 32768
+
+#define HOGVULDUR_JOB_BYTES(n) ((size_t)10 + 4 * (size_t)(n))
+#define HOGVULDUR_SHEET_BYTES(n, c) ((size_t)12 + 2 * (size_t)(n) + 2 * (size_t)(c))
+
+/* What a call returns when nothing is refused. */
+#define HOGVULDUR_DONE 0
+
+/* Checks a job. Refusals 1 to 10. */
+uint16_t hogvuldur_check(const uint8_t *job, size_t job_length, uint64_t answer[4]);
+
+/* f, c, m and n of a job; of a refused job four zeros. */
+void hogvuldur_numbers(const uint8_t *job, size_t job_length, uint64_t answer[4]);
+
+/*
+ * The two FPGAs of net i. Returns 1, or 0 with four zeros where there is no such net: i at or
+ * above n, or the job refused.
+ */
+uint16_t hogvuldur_net(const uint8_t *job, size_t job_length, uint16_t i, uint64_t answer[4]);
+
+/*
+ * Where the nets of a job stand in it: the first byte, and how many bytes (4n). Of a refused job
+ * both are 0.
+ */
+void hogvuldur_net_section(const uint8_t *job, size_t job_length, uint64_t answer[4]);
+
+/*
+ * Writes the job of a board f, c, m with n nets to the first 10 + 4n bytes of `room`. Net i is
+ * between FPGAs ends[2i] and ends[2i + 1]. Refusals 3 to 7; 11 for fewer than 2n ends or too
+ * little room; then 9 and 10. Places are those in the job it would write.
+ */
+uint16_t hogvuldur_write_job(uint16_t f, uint16_t c, uint16_t m, uint16_t n,
+                             const uint16_t *ends, size_t ends_length,
+                             uint8_t *room, size_t room_length, uint64_t answer[4]);
+
+/*
+ * One round on the assignment in the first n numbers of `plan`. Refusals 1 to 13.
+ *   0, 0, 0, 0   settled: the assignment is legal; only scratch is written
+ *   1, v, A, B   moved: v is the lowest FPGA with a load above m, A its lowest crossbar with a load
+ *                above m, B its lowest with a load below m. Nets of A and B are spread anew over A
+ *                and B; the new assignment replaces the old.
+ */
+uint16_t hogvuldur_one_round(const uint8_t *job, size_t job_length,
+                             uint16_t *plan, size_t plan_length,
+                             uint16_t *scratch, size_t scratch_length, uint64_t answer[4]);
+
+/*
+ * Rounds from the assignment in the first n numbers of `plan` until it is legal. Refusals 1 to 13.
+ * Answer: how many rounds were made, and the total excess before the first.
+ */
+uint16_t hogvuldur_finish(const uint8_t *job, size_t job_length,
+                          uint16_t *plan, size_t plan_length,
+                          uint16_t *scratch, size_t scratch_length, uint64_t answer[4]);
+
+/*
+ * Net i to crossbar i mod c, then finish. The result, in the first n numbers of `plan`, is legal
+ * and its totals are within one of each other. Refusals 1 to 12. Answer as of finish.
+ */
+uint16_t hogvuldur_plan(const uint8_t *job, size_t job_length,
+                        uint16_t *plan, size_t plan_length,
+                        uint16_t *scratch, size_t scratch_length, uint64_t answer[4]);
+
+/*
+ * Writes the sheet of a job and an assignment to the first 12 + 2n + 2c bytes of `room`. Refusals
+ * 1 to 11, then 13, 24, 25. The audit accepts what it writes.
+ */
+uint16_t hogvuldur_write_sheet(const uint8_t *job, size_t job_length,
+                               const uint16_t *plan, size_t plan_length,
+                               uint8_t *room, size_t room_length, uint64_t answer[4]);
+
+/* Writes a sheet's n crossbar numbers to the front of `plan`. The audit's refusals, then 11. */
+uint16_t hogvuldur_read_sheet(const uint8_t *job, size_t job_length,
+                              const uint8_t *sheet, size_t sheet_length,
+                              uint16_t *plan, size_t plan_length, uint64_t answer[4]);
+
+/*
+ * Audits a sheet against a job. Refusals 1 to 10, then 21 to 26 in that order. Done exactly when
+ * the sheet is what the writer writes for some legal balanced assignment of that job.
+ */
+uint16_t hogvuldur_audit(const uint8_t *job, size_t job_length,
+                         const uint8_t *sheet, size_t sheet_length, uint64_t answer[4]);
+
+/*
+ * Makes the audit and says which bytes are at fault: 0 for the job or 1 for the sheet, the first
+ * byte, and how many. Four job bytes of the net for 9 and 10; two sheet bytes for 22, 23 (the
+ * net's number) and 26 (the written total); otherwise the empty start of the job: 0, 0, 0.
+ */
+void hogvuldur_evidence(const uint8_t *job, size_t job_length,
+                        const uint8_t *sheet, size_t sheet_length, uint64_t answer[4]);
+
+/*
+ * Spare of FPGA v: m times c minus its degree. Refusals 1 to 10 and 12 for the job; then 9 for v at
+ * or above f, p being v.
+ */
+uint16_t hogvuldur_spare(const uint8_t *job, size_t job_length, uint16_t v, uint64_t answer[4]);
+
+/*
+ * Headroom of FPGAs v and w: the smaller spare. Refusals 1 to 10 and 12 for the job; then 9 for v
+ * and for w, 10 if they are equal, p being that number.
+ */
+uint16_t hogvuldur_headroom(const uint8_t *job, size_t job_length, uint16_t v, uint16_t w,
+                            uint64_t answer[4]);
+
+#ifdef __cplusplus
+}
+#endif
+
+#endif
