@@ -8,5 +8,4 @@ pub mod Spread
 pub mod Deal
 pub mod Halves
 pub mod Rule
-pub mod Case
 pub mod Sound

@@ -8,4 +8,3 @@ pub mod Chains
 pub mod Planning
 pub mod Unique
 pub mod Small
-pub mod Cases

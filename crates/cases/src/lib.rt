@@ -1,0 +1,1 @@
+// Document 01's cases marked P, as one table under one theorem. Nothing runs here.
