@@ -27,7 +27,8 @@
  * writes all four numbers of `answer`: after a refusal p, q, 0, 0; otherwise what the call says,
  * filled up with zeros.
  *
- * REFUSALS, in the order in which they are checked, with p (q is 0 but for 24):
+ * REFUSALS, in the order in which they are checked unless a call says otherwise, with p (q is 0 but
+ * for 24):
  *    1  job shorter than 10 bytes: its length
  *    2  board count is not 3: byte 0
  *    3  f outside 1 to 256: byte 2

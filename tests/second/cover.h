@@ -1,0 +1,21 @@
+/* Counts what the cases covered. A run that misses a refusal or a kind of round fails. */
+#ifndef COVER_H
+#define COVER_H
+
+#include "rule.h"
+
+/* A call was to answer with this refusal, or 0 for done. */
+void cover_answer(unsigned call, unsigned refusal);
+
+/* A round kept the rule. */
+void cover_round(const struct round *round);
+
+/* A chain of rounds reached a legal assignment. */
+void cover_chain(const struct job *job, uint64_t rounds, uint64_t excess);
+
+void cover_print(void);
+
+/* Reports each thing that document 01 names and that never occurred. */
+void cover_demand(bool with_listing);
+
+#endif
