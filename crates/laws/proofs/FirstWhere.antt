@@ -1,6 +1,6 @@
 -- What the first number that passes a test is: one that is lowest, one more number to look at, and two tests in one.
 -- Assumes nothing.
-use mathlib.Core.Path.{_≡_, sym, ap, subst, _∙_}
+use mathlib.Core.Path.{_≡_, sym, ap, _∙_}
 use mathlib.Core.Bool.{Bool, true, false, _||_, cond, true≢false, or-true}
 use mathlib.Core.Logic.{_↔_, dite}
 use Prim.Native.Nat.{ℕ, zero, suc, _+_, min, _≤_, _<_}
@@ -190,14 +190,3 @@ module _ (t : ℕ → ℕ → Bool) (f : ℕ) where
   first-row-more i =
       first-where-same (λ v. somewhere (t v) (i + 1)) (λ v. somewhere (t v) i || t v i) f (λ v l. somewhere-more (t v) i)
       ∙ first-where-or (λ v. somewhere (t v) i) (λ v. t v i) f
-
-  -- the first column of that row: the new one if the row is new, and else the same as before
-  pub first-column-new : (i w : ℕ) → w < f → firstWhere (λ v. t v i) f ≡ w → w < firstWhere (λ v. somewhere (t v) i) f → firstWhere (t w) (i + 1) ≡ i
-  first-column-new i w l e h =
-      first-where-is (t w) i (i + 1) (omega arith) (subst (λ (v : ℕ). t v i ≡ true) e (first-where-holds (λ v. t v i) f (omega arith)))
-      (somewhere-false (t w) i .0 (first-where-before (λ v. somewhere (t v) i) f w h))
-
-  pub first-column-old : (i v : ℕ) → v < f → firstWhere (λ v. somewhere (t v) i) f ≡ v → firstWhere (t v) (i + 1) ≡ firstWhere (t v) i
-  first-column-old i v l e =
-      first-where-kept (t v) i (i + 1)
-      (ltb-true (firstWhere (t v) i) i (subst (λ (u : ℕ). somewhere (t u) i ≡ true) e (first-where-holds (λ u. somewhere (t u) i) f (omega arith)))) (omega arith)

@@ -11,7 +11,3 @@ fpgaBelow J a i = firstWhere (λ v. somewhere (overAt J a v) i) (J .f)
 -- the lowest FPGA with a load above m on crossbar i; f if there is none
 unfoldable pub fpgaAt : Job → (ℕ → ℕ) → ℕ → ℕ
 fpgaAt J a i = firstWhere (λ v. overAt J a v i) (J .f)
-
--- FPGA v's lowest crossbar below i with a load above m; i if there is none
-unfoldable pub crowdedBelow : Job → (ℕ → ℕ) → ℕ → ℕ → ℕ
-crowdedBelow J a i v = firstWhere (overAt J a v) i

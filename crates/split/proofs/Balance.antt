@@ -2,7 +2,7 @@
 -- Assumes nothing.
 use mathlib.Core.Path.{_≡_, refl}
 use mathlib.Core.Logic.{_⊎_, ⊎-elim}
-use Prim.Native.Nat.{ℕ, _+_, _*_, _/_, _%_, _≤_, _<_}
+use Prim.Native.Nat.{ℕ, _+_, _≤_, _<_}
 use native.Mathlib.Omega.{arith}
 use borrow.Author.Tests.{eq-eqb}
 use Rattle.laws.specs.Sum.{sum}
@@ -92,14 +92,3 @@ pub rule : (n t h a b c d : ℕ) → t + h ≡ n → a + b ≡ t → c + d ≡ h
     → Shared n (a + c) (b + d)
 rule n t h a b c d e et eh p q r =
     record { all = omega arith; near = omega arith; odd = λ o. omega arith; full = λ w z. omega arith }
-
--- what a round needs of it, for an even width m: no load is above m where both together fit, and none below where they fill both
-pub within : (n l r m : ℕ) → m % 2 ≡ 0 → Shared n l r → n ≤ 2 * m → (l ≤ m) × (r ≤ m)
-within n l r m ev b h =
-    by-same (n % 2) 1 (λ o. omega (arith, b .odd o))
-    (λ no. by-same n (2 * m) (λ e. omega (arith, b .full (m / 2) (omega arith))) (λ ne. omega arith))
-
-pub above : (n l r m : ℕ) → m % 2 ≡ 0 → Shared n l r → 2 * m ≤ n → (m ≤ l) × (m ≤ r)
-above n l r m ev b h =
-    by-same (n % 2) 1 (λ o. omega (arith, b .odd o))
-    (λ no. by-same n (2 * m) (λ e. omega (arith, b .full (m / 2) (omega arith))) (λ ne. omega arith))

@@ -1,0 +1,2 @@
+-- The listing program's text.
+pub mod Listing

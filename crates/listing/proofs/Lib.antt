@@ -1,2 +1,0 @@
--- What the listing needs of a plan.
-pub mod Printing

@@ -1,0 +1,3 @@
+-- Text in lent memory, and how numbers, lines and verdicts are written.
+pub mod Text
+pub mod Forms
