@@ -14,6 +14,7 @@ use Rattle.words.specs.declared.Verdict.the-variants.{Done, Refused}
 use Rattle.words.specs.Verdict.{firstRefusal}
 use Rattle.words.specs.Number.{word}
 use Rattle.words.proofs.Order.{then-first, then-second, passed, first-done}
+use Rattle.job.specs.declared.Board.{Board}
 use Rattle.job.specs.declared.Checked.{Checked}
 use Rattle.job.specs.Job.{netsAt, jobLength, fIn, cIn, mIn, nIn, firstIn, secondIn}
 use Rattle.job.specs.Check.{outside, rangesVerdict, netVerdict, netsVerdict, jobVerdict, numbersIn, noBoard, boardBy, boardOf, checkedOf, Ranged, Joins, Passed}
@@ -121,14 +122,27 @@ start-inside job = go (jobVerdict job) refl
     go Done h = head job h
     go (Refused r) h = omega arith
 
--- nor are there ever more nets than the largest job has
-pub nets-few : (job : List ℕ) → boardOf job .n ≤ 4096
+-- each number of a board is within its largest, be the job refused or not: it fits two bytes
+pub record Within (b : Board) : Type 0 where
+  pub f-high : b .f ≤ 256
+  pub c-high : b .c ≤ 128
+  pub m-high : b .m ≤ 64
+  pub n-high : b .n ≤ 4096
+
+pub within : (job : List ℕ) → Within (boardOf job)
 unfolding boardOf
-nets-few job = go (jobVerdict job) refl
+within job = go (jobVerdict job) refl
   where
-    go : (v : Verdict) → jobVerdict job ≡ v → boardBy v job .n ≤ 4096
-    go Done h = passes job h .ranged .n-high
-    go (Refused r) h = omega arith
+    go : (v : Verdict) → jobVerdict job ≡ v → Within (boardBy v job)
+    go Done h = let k = passes job h .ranged in record { f-high = k .f-high; c-high = k .c-high; m-high = k .m-high; n-high = k .n-high }
+    go (Refused r) h = record { f-high = omega arith; c-high = omega arith; m-high = omega arith; n-high = omega arith }
+
+pub its-within : (job : List ℕ) (b : Board) → b ≡ boardOf job → Within b
+its-within job b e = rw e (within job)
+
+-- so there are never more nets than the largest job has
+pub nets-few : (job : List ℕ) → boardOf job .n ≤ 4096
+nets-few job = within job .n-high
 
 -- the check's answer, where it is done
 pub checked-passed : (job : List ℕ) (k : Checked) → k ≡ checkedOf job → k .verdict ≡ Done → Passed job (k .board)

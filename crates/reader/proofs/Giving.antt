@@ -13,28 +13,10 @@ use Rattle.job.specs.declared.NetEnds.the-variants.{Ends, NoNet}
 use Rattle.job.specs.Job.{nIn, firstIn, secondIn}
 use Rattle.job.specs.Check.{jobVerdict, boardBy, boardOf, numbersIn, noBoard}
 use Rattle.job.specs.Read.{netAt}
-use Rattle.job.proofs.Passing.{board-done, board-refused, passes}
+use Rattle.job.proofs.Passing.{board-done, board-refused}
 use Rattle.job.proofs.Reading.{none-above, net-of-job, no-net-above, no-net-refused}
 use Rattle.reader.specs.declared.Reader.{Reader}
 use Rattle.reader.specs.Held.{numbersOf, readerOf, heldIn, ofNets, netOf, netIn}
-
--- each number of a board is within its largest, be the job refused or not: it fits two bytes
-pub record Within (b : Board) : Type 0 where
-  pub f-high : b .f ≤ 256
-  pub c-high : b .c ≤ 128
-  pub m-high : b .m ≤ 64
-  pub n-high : b .n ≤ 4096
-
-pub within : (job : List ℕ) → Within (boardOf job)
-unfolding boardOf
-within job = go (jobVerdict job) refl
-  where
-    go : (v : Verdict) → jobVerdict job ≡ v → Within (boardBy v job)
-    go Done h = let k = passes job h .ranged in record { f-high = k .f-high; c-high = k .c-high; m-high = k .m-high; n-high = k .n-high }
-    go (Refused r) h = record { f-high = omega arith; c-high = omega arith; m-high = omega arith; n-high = omega arith }
-
-pub its-within : (job : List ℕ) (b : Board) → b ≡ boardOf job → Within b
-its-within job b e = rw e (within job)
 
 -- of a board, only n and where the nets start matter for net i
 same-start : (job : List ℕ) (i : ℕ) → netOf job (numbersIn job .n) i ≡ netAt job (numbersIn job) i

@@ -4,6 +4,7 @@ use mathlib.Core.Path.{_≡_, ap, sym, _∙_}
 use mathlib.Core.List.{List}
 use Prim.Native.Nat.{ℕ, _+_, _-_, _*_, _≤_, _<_, min}
 use native.Mathlib.Omega.{arith}
+use native.Mathlib.Nat.{mul-le-mul}
 use borrow.Author.Tests.{le-leb, lt-leb, leb-false, eq-eqb, ne-eqb}
 use Rattle.laws.specs.Row.{at}
 use Rattle.laws.specs.Count.{Counted}
@@ -70,7 +71,7 @@ module _ (v w : Verdict) (k : ℕ) where
   unfolding _then_
   room-second r p h = rw (p, h)
 
-  room-done : v ≡ verdict.Done → w ≡ verdict.Done → Nets k ≡ roomBy (v then w) k
+  room-done : v ≡ verdict.Done → w ≡ verdict.Done → Nets (record { 0 = k }) ≡ roomBy (v then w) k
   unfolding _then_
   room-done p q = rw (p, q)
 
@@ -114,6 +115,9 @@ module _ (job : List ℕ) (k : Checked) (e : k ≡ fittingOf job) where
 
     -- what an FPGA has left, by counters of the degrees
     module _ {count : List ℕ} (most : ℕ) (counted : Counted count 256 (degree (jobIn job))) (em : most ≡ k .board .m * k .board .c) where
+      pub left-fits : most < 65536
+      left-fits = omega (arith, mul-le-mul (fits .ranged .m-high) (fits .ranged .c-high))
+
       module _ (v : ℕ) (l : v < k .board .f) where
         pub left-low : v < 256
         left-low = omega (arith, fits .ranged .f-high)
@@ -125,11 +129,12 @@ module _ (job : List ℕ) (k : Checked) (e : k ≡ fittingOf job) where
         unfolding spareOf
         left-is = omega (arith, counted .count v left-low, limit-is job (k .board) fits v)
 
-      pub spare-is : (v s : ℕ) → askedVerdict (k .board .f) v ≡ verdict.Done → s ≡ most - at count v → Nets s ≡ spareRoom job v
+      pub spare-is : (v s : ℕ) → askedVerdict (k .board .f) v ≡ verdict.Done → s ≡ most - at count v → Nets (record { 0 = s }) ≡ spareRoom job v
       unfolding spareVerdict
-      spare-is v s q es = ap Nets (es ∙ left-is v (known (k .board .f) v q)) ∙ room-done _ _ (spareOf (jobIn job) v) done (rw (fits .f) at q)
+      spare-is v s q es = ap (λ (n : ℕ). Nets (record { 0 = n })) (es ∙ left-is v (known (k .board .f) v q)) ∙ room-done _ _ (spareOf (jobIn job) v) done (rw (fits .f) at q)
 
-      pub headroom-is : (v w s t : ℕ) → bothVerdict (k .board .f) v w ≡ verdict.Done → s ≡ most - at count v → t ≡ most - at count w → Nets (min s t) ≡ headroomRoom job v w
+      pub headroom-is : (v w s t : ℕ) → bothVerdict (k .board .f) v w ≡ verdict.Done → s ≡ most - at count v → t ≡ most - at count w
+          → Nets (record { 0 = min s t }) ≡ headroomRoom job v w
       unfolding headroomVerdict headroomOf
       headroom-is v w s t q es et =
           let b = both-known (k .board .f) v w q in

@@ -46,7 +46,7 @@ headroomVerdict job v w = fittingVerdict job then bothVerdict (jobIn job .f) v w
 
 -- room for k nets, unless refused
 abbrev pub roomBy : Verdict → ℕ → Room
-roomBy verdict.Done k = Nets k
+roomBy verdict.Done k = Nets (record { 0 = k })
 roomBy (verdict.Refused r) k = Refused r
 
 abbrev pub spareRoom : List ℕ → ℕ → Room

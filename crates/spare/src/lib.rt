@@ -9,6 +9,7 @@ use crate::check::check_fitting;
 use tally::check::limit_of;
 use tally::count::degrees;
 use words::Fpga;
+use words::Net;
 use words::Verdict;
 use words::number::wide;
 
@@ -16,16 +17,16 @@ pub mod check;
 
 // Room for so many nets, or why that is not to be said.
 pub enum Room {
-    Nets(usize),
+    Nets(Net),
     Refused(words::Refusal),
 }
 
 // What FPGA v has left of the limit, by the counters of the degrees.
-fn left_of(most: usize, count: [u16; 256], v: usize) -> usize
-    requires { ⌜ (v < 256) × (at count v ≤ most) ⌝ }
-    ensures { λ r. ⌜ r ≡ most - at count v ⌝ }
+fn left_of(most: usize, count: [u16; 256], v: usize) -> Net
+    requires { ⌜ (v < 256) × (at count v ≤ most) × (most < 65536) ⌝ }
+    ensures { λ r. ⌜ r .0 ≡ most - at count v ⌝ }
 {
-    most - wide(count[v])
+    Net((most - wide(count[v])) as u16)
 }
 
 // Spare of an FPGA.
@@ -64,7 +65,7 @@ pub fn headroom(job: &[u8], v: Fpga, w: Fpga) -> Room
     let count = degrees(job, board);
     let first = left_of(most, count, wide(v.0));
     let second = left_of(most, count, wide(w.0));
-    if second < first {
+    if second.0 < first.0 {
         return Room::Nets(second);
     }
     Room::Nets(first)

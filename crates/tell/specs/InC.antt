@@ -58,7 +58,7 @@ faultInC e = four (cond (e .sheet) 1 0) (e .start) (e .long) 0
 
 -- so many nets
 abbrev pub roomInC : Room → InC
-roomInC (room.Nets k) = (0, four k 0 0 0)
+roomInC (room.Nets k) = (0, four (k .0) 0 0 0)
 roomInC (room.Refused r) = verdictInC (verdict.Refused r)
 
 -- The call gave some answer, and this is that answer in C.

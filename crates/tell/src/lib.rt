@@ -88,7 +88,7 @@ pub fn tell_room(left: Room, answer: &mut [u64; 4]) -> u16
 {
     match left {
         Room::Nets(k) => {
-            put(answer, k, 0, 0, 0);
+            put(answer, wide(k.0), 0, 0, 0);
             0
         }
         Room::Refused(r) => tell_verdict(Verdict::Refused(r), answer),

@@ -2,7 +2,7 @@
 use mathlib.Core.Path.{ap}
 use native.Mathlib.Omega.{arith}
 use Rattle.reader.specs.Held.{numbersOf}
-use Rattle.reader.proofs.Giving.{its-within}
+use Rattle.job.proofs.Passing.{its-within}
 use borrow.Author.Needs.{needs}
 use Rattle.reader.proofs.numbers_of.Statement.{statement}
 use Rattle.reader.proofs.numbers_of.Tie as tie

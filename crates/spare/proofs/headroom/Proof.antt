@@ -1,5 +1,5 @@
 -- `spare::headroom` meets its contract.
-use Rattle.spare.proofs.Rooms.{both-known, fits, headroom-stops, headroom-unknown, headroom-is, left-low, left-within}
+use Rattle.spare.proofs.Rooms.{both-known, fits, headroom-stops, headroom-unknown, headroom-is, left-low, left-within, left-fits}
 use native.Mathlib.Omega.{arith}
 use Prim.Native.Nat.{min}
 use mathlib.Core.Path.{_≡_, sym, _∙_}
@@ -42,23 +42,23 @@ wide-requires c κs = search needs
 
 left-of-requires : tie.Need-left-of-requires
 left-of-requires c κs = let l = both-known _ _ _ (sym (c .before .before .before .before .before .check-both .ensures) ∙ c .before .before .before .enum-told2 .given .1) .0 in
-    rw (c .wide .ensures .0) (left-low _ _ (c .before .before .before .before .before .before .before .before .before .check-fitting .ensures) (c .before .before .before .before .before .before .before .enum-told .given .1) _ (c .before .degrees .ensures) (c .before .before .limit-of .ensures) _ l, left-within _ _ (c .before .before .before .before .before .before .before .before .before .check-fitting .ensures) (c .before .before .before .before .before .before .before .enum-told .given .1) _ (c .before .degrees .ensures) (c .before .before .limit-of .ensures) _ l)
+    rw (c .wide .ensures .0) (left-low _ _ (c .before .before .before .before .before .before .before .before .before .check-fitting .ensures) (c .before .before .before .before .before .before .before .enum-told .given .1) _ (c .before .degrees .ensures) (c .before .before .limit-of .ensures) _ l, left-within _ _ (c .before .before .before .before .before .before .before .before .before .check-fitting .ensures) (c .before .before .before .before .before .before .before .enum-told .given .1) _ (c .before .degrees .ensures) (c .before .before .limit-of .ensures) _ l, left-fits _ _ (c .before .before .before .before .before .before .before .before .before .check-fitting .ensures) (c .before .before .before .before .before .before .before .enum-told .given .1) _ (c .before .degrees .ensures) (c .before .before .limit-of .ensures))
 
 wide-requires-2 : tie.Need-wide-requires-2
 wide-requires-2 c κs = search needs
 
 left-of-requires-2 : tie.Need-left-of-requires-2
 left-of-requires-2 c κs = let l = both-known _ _ _ (sym (c .before .before .before .before .before .before .before .check-both .ensures) ∙ c .before .before .before .before .before .enum-told2 .given .1) .1 in
-    rw (c .wide2 .ensures .0) (left-low _ _ (c .before .before .before .before .before .before .before .before .before .before .before .check-fitting .ensures) (c .before .before .before .before .before .before .before .before .before .enum-told .given .1) _ (c .before .before .before .degrees .ensures) (c .before .before .before .before .limit-of .ensures) _ l, left-within _ _ (c .before .before .before .before .before .before .before .before .before .before .before .check-fitting .ensures) (c .before .before .before .before .before .before .before .before .before .enum-told .given .1) _ (c .before .before .before .degrees .ensures) (c .before .before .before .before .limit-of .ensures) _ l)
+    rw (c .wide2 .ensures .0) (left-low _ _ (c .before .before .before .before .before .before .before .before .before .before .before .check-fitting .ensures) (c .before .before .before .before .before .before .before .before .before .enum-told .given .1) _ (c .before .before .before .degrees .ensures) (c .before .before .before .before .limit-of .ensures) _ l, left-within _ _ (c .before .before .before .before .before .before .before .before .before .before .before .check-fitting .ensures) (c .before .before .before .before .before .before .before .before .before .enum-told .given .1) _ (c .before .before .before .degrees .ensures) (c .before .before .before .before .limit-of .ensures) _ l, left-fits _ _ (c .before .before .before .before .before .before .before .before .before .before .before .check-fitting .ensures) (c .before .before .before .before .before .before .before .before .before .enum-told .given .1) _ (c .before .before .before .degrees .ensures) (c .before .before .before .before .limit-of .ensures))
 
 returns-3 : tie.Need-returns-3
-returns-3 c = let h = headroom-is _ _ (c .before .before .before .before .before .before .before .before .before .before .before .before .before .check-fitting .ensures) (c .before .before .before .before .before .before .before .before .before .before .before .enum-told .given .1) _ (c .before .before .before .before .before .degrees .ensures) (c .before .before .before .before .before .before .limit-of .ensures) _ _ _ _ (sym (c .before .before .before .before .before .before .before .before .before .check-both .ensures) ∙ c .before .before .before .before .before .before .before .enum-told2 .given .1) (rw (c .before .before .before .before .wide .ensures .0) at (c .before .before .before .left-of .ensures)) (rw (c .before .before .wide2 .ensures .0) at (c .before .left-of2 .ensures)) in
-    let e : min (c .before .before .before .left-of .result) (c .before .left-of2 .result) ≡ c .before .left-of2 .result = omega arith in
+returns-3 c = let h = headroom-is _ _ (c .before .before .before .before .before .before .before .before .before .before .before .before .before .before .before .check-fitting .ensures) (c .before .before .before .before .before .before .before .before .before .before .before .before .before .enum-told .given .1) _ (c .before .before .before .before .before .before .before .degrees .ensures) (c .before .before .before .before .before .before .before .before .limit-of .ensures) _ _ _ _ (sym (c .before .before .before .before .before .before .before .before .before .before .before .check-both .ensures) ∙ c .before .before .before .before .before .before .before .before .before .enum-told2 .given .1) (rw (c .before .before .before .before .before .before .wide .ensures .0) at (c .before .before .before .before .before .left-of .ensures)) (rw (c .before .before .before .before .wide2 .ensures .0) at (c .before .before .before .left-of2 .ensures)) in
+    let e : min (c .before .before .before .before .before .left-of .result .0) (c .before .before .before .left-of2 .result .0) ≡ c .before .before .before .left-of2 .result .0 = omega arith in
     rw e at h
 
 returns-4 : tie.Need-returns-4
-returns-4 c = let h = headroom-is _ _ (c .before .before .before .before .before .before .before .before .before .before .before .before .before .check-fitting .ensures) (c .before .before .before .before .before .before .before .before .before .before .before .enum-told .given .1) _ (c .before .before .before .before .before .degrees .ensures) (c .before .before .before .before .before .before .limit-of .ensures) _ _ _ _ (sym (c .before .before .before .before .before .before .before .before .before .check-both .ensures) ∙ c .before .before .before .before .before .before .before .enum-told2 .given .1) (rw (c .before .before .before .before .wide .ensures .0) at (c .before .before .before .left-of .ensures)) (rw (c .before .before .wide2 .ensures .0) at (c .before .left-of2 .ensures)) in
-    let e : min (c .before .before .before .left-of .result) (c .before .left-of2 .result) ≡ c .before .before .before .left-of .result = omega arith in
+returns-4 c = let h = headroom-is _ _ (c .before .before .before .before .before .before .before .before .before .before .before .before .before .before .before .check-fitting .ensures) (c .before .before .before .before .before .before .before .before .before .before .before .before .before .enum-told .given .1) _ (c .before .before .before .before .before .before .before .degrees .ensures) (c .before .before .before .before .before .before .before .before .limit-of .ensures) _ _ _ _ (sym (c .before .before .before .before .before .before .before .before .before .before .before .check-both .ensures) ∙ c .before .before .before .before .before .before .before .before .before .enum-told2 .given .1) (rw (c .before .before .before .before .before .before .wide .ensures .0) at (c .before .before .before .before .before .left-of .ensures)) (rw (c .before .before .before .before .wide2 .ensures .0) at (c .before .before .before .left-of2 .ensures)) in
+    let e : min (c .before .before .before .before .before .left-of .result .0) (c .before .before .before .left-of2 .result .0) ≡ c .before .before .before .before .before .left-of .result .0 = omega arith in
     rw e at h
 
 pub headroom-spec : {M : Type 1} → statement M

@@ -1,5 +1,5 @@
 -- `spare::spare` meets its contract.
-use Rattle.spare.proofs.Rooms.{known, fits, spare-stops, spare-unknown, spare-is, left-low, left-within}
+use Rattle.spare.proofs.Rooms.{known, fits, spare-stops, spare-unknown, spare-is, left-low, left-within, left-fits}
 use mathlib.Core.Path.{sym, _∙_}
 use borrow.Author.Needs.{needs}
 use Rattle.spare.proofs.spare.Statement.{statement}
@@ -40,7 +40,7 @@ wide-requires c κs = search needs
 
 left-of-requires : tie.Need-left-of-requires
 left-of-requires c κs = let l = known _ _ (sym (c .before .before .before .before .before .check-asked .ensures) ∙ c .before .before .before .enum-told2 .given .1) in
-    rw (c .wide .ensures .0) (left-low _ _ (c .before .before .before .before .before .before .before .before .before .check-fitting .ensures) (c .before .before .before .before .before .before .before .enum-told .given .1) _ (c .before .degrees .ensures) (c .before .before .limit-of .ensures) _ l, left-within _ _ (c .before .before .before .before .before .before .before .before .before .check-fitting .ensures) (c .before .before .before .before .before .before .before .enum-told .given .1) _ (c .before .degrees .ensures) (c .before .before .limit-of .ensures) _ l)
+    rw (c .wide .ensures .0) (left-low _ _ (c .before .before .before .before .before .before .before .before .before .check-fitting .ensures) (c .before .before .before .before .before .before .before .enum-told .given .1) _ (c .before .degrees .ensures) (c .before .before .limit-of .ensures) _ l, left-within _ _ (c .before .before .before .before .before .before .before .before .before .check-fitting .ensures) (c .before .before .before .before .before .before .before .enum-told .given .1) _ (c .before .degrees .ensures) (c .before .before .limit-of .ensures) _ l, left-fits _ _ (c .before .before .before .before .before .before .before .before .before .check-fitting .ensures) (c .before .before .before .before .before .before .before .enum-told .given .1) _ (c .before .degrees .ensures) (c .before .before .limit-of .ensures))
 
 returns-3 : tie.Need-returns-3
 returns-3 c = spare-is _ _ (c .before .before .before .before .before .before .before .before .before .before .check-fitting .ensures) (c .before .before .before .before .before .before .before .before .enum-told .given .1) _ (c .before .before .degrees .ensures) (c .before .before .before .limit-of .ensures) _ _ (sym (c .before .before .before .before .before .before .check-asked .ensures) ∙ c .before .before .before .before .enum-told2 .given .1) (rw (c .before .wide .ensures .0) at (c .left-of .ensures))

@@ -3,7 +3,6 @@ use mathlib.Core.Path.{_∙_}
 use borrow.Author.Needs.{needs}
 use Rattle.tell.proofs.tell_finish.Statement.{statement}
 use Rattle.tell.proofs.tell_finish.Tie as tie
-use Rattle.tell.proofs.tell_verdict.Reads as tell-verdict-reads
 
 enum-known-made : tie.Need-enum-known-made
 enum-known-made c = search needs

@@ -3,10 +3,12 @@ use mathlib.Core.Path.{_∙_}
 use borrow.Author.Needs.{needs}
 use Rattle.tell.proofs.tell_room.Statement.{statement}
 use Rattle.tell.proofs.tell_room.Tie as tie
-use Rattle.tell.proofs.tell_verdict.Reads as tell-verdict-reads
 
 enum-known-left : tie.Need-enum-known-left
 enum-known-left c = search needs
+
+wide-requires : tie.Need-wide-requires
+wide-requires c κs = search needs
 
 put-requires : tie.Need-put-requires
 put-requires c κs = search needs
@@ -18,7 +20,7 @@ tell-verdict-requires : tie.Need-tell-verdict-requires
 tell-verdict-requires c κs = search needs
 
 returns : tie.Need-returns
-returns c = rw (c .put .ensures, c .before .before .before .left .given .1)
+returns c = rw (c .put .ensures, c .before .wide .ensures .0, c .before .before .before .before .left .given .1)
 
 returns-2 : tie.Need-returns-2
 returns-2 c = c .tell-verdict .ensures ∙ rw (c .before .before .before .left2 .given .1)
@@ -28,6 +30,7 @@ tell-room-spec =
     tie.close
     (tie.spec
     enum-known-left
+    wide-requires
     put-requires
     enum-known-left-2
     tell-verdict-requires

@@ -3,7 +3,6 @@ use mathlib.Core.Path.{_∙_}
 use borrow.Author.Needs.{needs}
 use Rattle.tell.proofs.tell_round.Statement.{statement}
 use Rattle.tell.proofs.tell_round.Tie as tie
-use Rattle.tell.proofs.tell_verdict.Reads as tell-verdict-reads
 
 enum-told : tie.Need-enum-told
 enum-told c = search needs

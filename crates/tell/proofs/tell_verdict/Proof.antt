@@ -2,9 +2,6 @@
 use borrow.Author.Needs.{needs}
 use Rattle.tell.proofs.tell_verdict.Statement.{statement}
 use Rattle.tell.proofs.tell_verdict.Tie as tie
-use Rattle.words.proofs.number_of.Reads as number-of-reads
-use Rattle.words.proofs.p_of.Reads as p-of-reads
-use Rattle.words.proofs.q_of.Reads as q-of-reads
 
 p-of-requires : tie.Need-p-of-requires
 p-of-requires c κs = search needs
