@@ -56,42 +56,53 @@ void every_call(struct file job, struct list plan, struct file sheet)
     sheet_calls(job, sheet);
 }
 
-void damage_job(struct file job, struct list plan, struct file sheet)
+/* What goes with the damaged file. */
+static struct {
+    struct file job, sheet;
+    struct list plan;
+} beside;
+
+static void calls_on_job(struct file damaged)
+{
+    every_call(damaged, beside.plan, beside.sheet);
+}
+
+static void calls_on_sheet(struct file damaged)
+{
+    sheet_calls(beside.job, damaged);
+}
+
+/* The calls on a file with each byte changed in turn, cut to each length, and with 1 to `more` bytes behind it. */
+static void damage(struct file file, size_t more, void (*calls_on)(struct file damaged))
 {
     uint8_t bytes[MOST_JOB + BEYOND];
-    struct file damaged = {bytes, job.length};
-    memcpy(bytes, job.bytes, job.length);
-    for (size_t place = 0; place < job.length; place++) {
+    struct file damaged = {bytes, file.length};
+    memcpy(bytes, file.bytes, file.length);
+    for (size_t place = 0; place < file.length; place++) {
         for (unsigned value = 0; value < VALUES; value++) {
-            bytes[place] = changed(job.bytes[place], value);
-            every_call(damaged, plan, sheet);
+            bytes[place] = changed(file.bytes[place], value);
+            calls_on(damaged);
         }
-        bytes[place] = job.bytes[place];
+        bytes[place] = file.bytes[place];
     }
-    for (damaged.length = 0; damaged.length < job.length; damaged.length++) every_call(damaged, plan, sheet);
-    for (damaged.length = job.length + 1; damaged.length < job.length + 6; damaged.length++) {
+    for (damaged.length = 0; damaged.length < file.length; damaged.length++) calls_on(damaged);
+    for (damaged.length = file.length + 1; damaged.length <= file.length + more; damaged.length++) {
         bytes[damaged.length - 1] = (uint8_t)chance_below(2);
-        every_call(damaged, plan, sheet);
+        calls_on(damaged);
     }
+}
+
+void damage_job(struct file job, struct list plan, struct file sheet)
+{
+    beside.plan = plan;
+    beside.sheet = sheet;
+    damage(job, 5, calls_on_job);
 }
 
 void damage_sheet(struct file job, struct file sheet)
 {
-    uint8_t bytes[MOST_SHEET + BEYOND];
-    struct file damaged = {bytes, sheet.length};
-    memcpy(bytes, sheet.bytes, sheet.length);
-    for (size_t place = 0; place < sheet.length; place++) {
-        for (unsigned value = 0; value < VALUES; value++) {
-            bytes[place] = changed(sheet.bytes[place], value);
-            sheet_calls(job, damaged);
-        }
-        bytes[place] = sheet.bytes[place];
-    }
-    for (damaged.length = 0; damaged.length < sheet.length; damaged.length++) sheet_calls(job, damaged);
-    for (damaged.length = sheet.length + 1; damaged.length < sheet.length + 4; damaged.length++) {
-        bytes[damaged.length - 1] = (uint8_t)chance_below(2);
-        sheet_calls(job, damaged);
-    }
+    beside.job = job;
+    damage(sheet, 3, calls_on_sheet);
 }
 
 /* Changes a few bytes, most of them a little, and sometimes the length. */

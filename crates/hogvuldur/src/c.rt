@@ -3,7 +3,6 @@ ghost use mathlib.Core.Path.{_≡_};
 ghost use lib.ListN.{length};
 ghost use Rattle.laws.specs.Row.{at, row};
 ghost use Rattle.words.specs.Lent.{roomAfter};
-ghost use Rattle.words.specs.declared.Verdict.{Verdict};
 ghost use Rattle.job.specs.Job.{nIn};
 ghost use Rattle.job.specs.Check.{jobVerdict, boardOf};
 ghost use Rattle.job.specs.Read.{netAt};
