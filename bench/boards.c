@@ -91,25 +91,19 @@ static void mix_nets(const struct board *board, struct net *nets)
     }
 }
 
-static void put_numbers(uint8_t *job, size_t byte, const unsigned *numbers, unsigned count)
-{
-    for (unsigned i = 0; i < count; i++) {
-        job[byte + 2 * i] = (uint8_t)(numbers[i] >> 8);
-        job[byte + 2 * i + 1] = (uint8_t)numbers[i];
-    }
-}
-
-size_t write_board(const struct board *board, uint8_t job[HOGVULDUR_JOB_BYTES(HOGVULDUR_MOST_NETS)])
+struct file board_job(const struct board *board)
 {
     static struct net mixed[MOST_FILLED];
-    const unsigned head[5] = {3, board->f, board->c, board->m, board->n};
+    static uint16_t ends[2 * MOST_NETS];
+    static uint8_t room[MOST_JOB];
+    const unsigned numbers[4] = {board->f, board->c, board->m, board->n};
     if (board->kind == MIXED)
         mix_nets(board, mixed);
-    put_numbers(job, 0, head, 5);
     for (unsigned i = 0; i < board->n; i++) {
         struct net net = board->kind == MIXED ? mixed[i] : hot_net(board, i);
-        const unsigned ends[2] = {net.v, net.w};
-        put_numbers(job, HOGVULDUR_JOB_BYTES(i), ends, 2);
+        ends[2 * i] = net.v;
+        ends[2 * i + 1] = net.w;
     }
-    return HOGVULDUR_JOB_BYTES(board->n);
+    struct file file = {room, put_job(room, numbers, ends)};
+    return file;
 }

@@ -10,10 +10,9 @@
 #ifndef BOARDS_H
 #define BOARDS_H
 
-#include <hogvuldur.h>
 #include <stdbool.h>
-#include <stddef.h>
-#include <stdint.h>
+
+#include "job.h"
 
 enum kind { MIXED, HOT };
 
@@ -35,7 +34,7 @@ struct series {
 #define SERIES 5
 extern const struct series all_series[SERIES];
 
-/* Writes the board's job; returns its length. */
-size_t write_board(const struct board *board, uint8_t job[HOGVULDUR_JOB_BYTES(HOGVULDUR_MOST_NETS)]);
+/* The board's job; its bytes stand until the next call. */
+struct file board_job(const struct board *board);
 
 #endif

@@ -5,13 +5,13 @@
 #include "boards.h"
 #include "sides.h"
 
-enum call { PLAN, ONE_ROUND, AUDIT, WRITE_SHEET, CALLS };
+/* A load check is one round on a plan: it counts all loads and finds none above m. */
+enum call { PLAN, ONE_ROUND, LOAD_CHECK, CALLS };
 
 struct measured {
-    uint64_t least[CALLS][SIDES]; /* nanoseconds of the shortest run so far; 0 before the first */
-    uint64_t rounds[SIDES];       /* that plan made */
-    uint64_t excess;              /* before the first round */
-    uint64_t round_made;          /* 1 if one round on the deal moves nets, 0 if it is settled */
+    uint64_t least[CALLS][SIDES];  /* nanoseconds of the shortest run so far; 0 before the first */
+    uint64_t rounds[CALLS][SIDES]; /* that the call made */
+    uint64_t excess;               /* of the deal */
 };
 
 /* The shortest time between two looks at the clock, which is part of every time measured. */

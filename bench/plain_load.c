@@ -3,44 +3,44 @@
 
 #include <string.h>
 
-void plain_count_loads(const uint8_t *job, const struct plain_board *board, const uint16_t *plan, uint16_t *load)
+void plain_count_loads(const struct job *job, const uint16_t *plan, uint16_t *load)
 {
-    memset(load, 0, (size_t)board->f * board->c * sizeof *load);
-    for (unsigned net = 0; net < board->n; net++) {
-        load[plain_first(job, net) * board->c + plan[net]]++;
-        load[plain_second(job, net) * board->c + plan[net]]++;
+    memset(load, 0, (size_t)job->f * job->c * sizeof *load);
+    for (unsigned net = 0; net < job->n; net++) {
+        load[plain_end(job, net, 0) * job->c + plan[net]]++;
+        load[plain_end(job, net, 1) * job->c + plan[net]]++;
     }
 }
 
-uint64_t plain_excess(const struct plain_board *board, const uint16_t *load)
+uint64_t plain_excess(const struct job *job, const uint16_t *load)
 {
     uint64_t excess = 0;
-    for (unsigned i = 0; i < board->f * board->c; i++)
-        if (load[i] > board->m)
-            excess += load[i] - board->m;
+    for (unsigned i = 0; i < job->f * job->c; i++)
+        if (load[i] > job->m)
+            excess += load[i] - job->m;
     return excess;
 }
 
-unsigned plain_crowded(const struct plain_board *board, const uint16_t *row)
+unsigned plain_crowded(const struct job *job, const uint16_t *row)
 {
     unsigned x = 0;
-    while (x < board->c && row[x] <= board->m)
+    while (x < job->c && row[x] <= job->m)
         x++;
     return x;
 }
 
-unsigned plain_with_room(const struct plain_board *board, const uint16_t *row)
+unsigned plain_with_room(const struct job *job, const uint16_t *row)
 {
     unsigned x = 0;
-    while (x < board->c && row[x] >= board->m)
+    while (x < job->c && row[x] >= job->m)
         x++;
     return x;
 }
 
-unsigned plain_lowest_over(const struct plain_board *board, const uint16_t *load, unsigned from)
+unsigned plain_lowest_over(const struct job *job, const uint16_t *load, unsigned from)
 {
     unsigned v = from;
-    while (v < board->f && plain_crowded(board, load + v * board->c) == board->c)
+    while (v < job->f && plain_crowded(job, load + v * job->c) == job->c)
         v++;
     return v;
 }

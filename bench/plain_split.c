@@ -8,22 +8,22 @@
  */
 #include "plain_split.h"
 
-#define HUB HOGVULDUR_MOST_FPGAS
+#define HUB MOST_FPGAS
 /* A hub has an extra net for each FPGA at most. */
-#define MOST_EDGES (HOGVULDUR_MOST_NETS + HOGVULDUR_MOST_FPGAS)
+#define MOST_EDGES (MOST_NETS + MOST_FPGAS)
 #define NONE UINT16_MAX
 
 static uint16_t fpga_of[2 * MOST_EDGES];
 static uint16_t next_end[2 * MOST_EDGES];
 static uint8_t walked[MOST_EDGES];
 static uint8_t side[MOST_EDGES];
-static uint16_t first_end[HOGVULDUR_MOST_FPGAS + 1];
-static uint16_t degree[HOGVULDUR_MOST_FPGAS + 1];
+static uint16_t first_end[MOST_FPGAS + 1];
+static uint16_t degree[MOST_FPGAS + 1];
 
 /* A connected group of FPGAs. */
 struct group {
     unsigned fpgas, nets, odd;
-    uint16_t fpga[HOGVULDUR_MOST_FPGAS];
+    uint16_t fpga[MOST_FPGAS];
 };
 
 static void add_end(unsigned end, unsigned v)
@@ -133,20 +133,20 @@ static void split_group(const struct group *group, unsigned k, unsigned m, unsig
     }
 }
 
-const uint8_t *plain_split(const struct plain_board *board, const struct plain_ends *nets, unsigned k)
+const uint8_t *plain_split(const struct job *job, const struct plain_ends *nets, unsigned k)
 {
-    uint8_t seen[HOGVULDUR_MOST_FPGAS] = {0};
+    uint8_t seen[MOST_FPGAS] = {0};
     unsigned more = 0;
     struct group group;
-    for (unsigned v = 0; v < board->f; v++)
+    for (unsigned v = 0; v < job->f; v++)
         forget_ends(v);
     for (unsigned e = 0; e < k; e++)
         add_net(e, nets[e].fpga[0], nets[e].fpga[1]);
-    for (unsigned v = 0; v < board->f; v++) {
+    for (unsigned v = 0; v < job->f; v++) {
         if (seen[v] || degree[v] == 0)
             continue;
         find_group(v, seen, &group);
-        split_group(&group, k, board->m, more);
+        split_group(&group, k, job->m, more);
         /* Groups with an odd number of nets favour A and B in turn, so that the totals stay within one. */
         more ^= group.nets % 2;
     }

@@ -2,7 +2,7 @@
 #ifndef PLAIN_SPLIT_H
 #define PLAIN_SPLIT_H
 
-#include "plain_job.h"
+#include "job.h"
 
 /* The two FPGAs of a net. */
 struct plain_ends {
@@ -10,6 +10,6 @@ struct plain_ends {
 };
 
 /* The side of each of k nets, 0 for crossbar A and 1 for crossbar B; they stand until the next call. */
-const uint8_t *plain_split(const struct plain_board *board, const struct plain_ends *nets, unsigned k);
+const uint8_t *plain_split(const struct job *job, const struct plain_ends *nets, unsigned k);
 
 #endif

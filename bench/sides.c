@@ -6,6 +6,6 @@
 #include "plain.h"
 
 const struct side sides[SIDES] = {
-    {"library", hogvuldur_plan, hogvuldur_one_round, hogvuldur_audit, hogvuldur_write_sheet},
-    {"plain C", plain_plan, plain_one_round, plain_audit, plain_write_sheet},
+    {"library", hogvuldur_plan, hogvuldur_one_round},
+    {"plain C", plain_plan, plain_one_round},
 };

@@ -6,7 +6,7 @@
 
 #include <stdio.h>
 
-static const char *const call_names[CALLS] = {"plan", "one round", "audit", "sheet writing"};
+static const char *const call_names[CALLS] = {"plan", "one round", "load check"};
 
 static void print_head(const struct series *series)
 {
@@ -25,16 +25,12 @@ static void print_number(double number)
     printf(" %.*f |", number < 10 ? 2 : number < 100 ? 1 : 0, number);
 }
 
-/* The starting excess, and the rounds that were made: by library and plain C, where they differ. */
+/* The excess that the call finds, and the rounds that it makes: by library and plain C, where they differ. */
 static void print_rounds(const struct measured *measured, enum call call)
 {
-    unsigned long long excess = measured->excess, round_made = measured->round_made;
-    unsigned long long library = measured->rounds[LIBRARY], plain = measured->rounds[PLAIN];
-    if (call == ONE_ROUND)
-        printf(" %llu | %llu |", excess, round_made);
-    else if (call != PLAN)
-        printf(" | |");
-    else if (library == plain)
+    unsigned long long excess = call == LOAD_CHECK ? 0 : measured->excess;
+    unsigned long long library = measured->rounds[call][LIBRARY], plain = measured->rounds[call][PLAIN];
+    if (library == plain)
         printf(" %llu | %llu |", excess, library);
     else
         printf(" %llu | %llu, %llu |", excess, library, plain);
