@@ -1,3 +1,3 @@
--- The totals that were counted, and the numbers that were read, say what the definitions ask.
-pub mod Counting
-pub mod Pointing
+-- The laws of the audit, and what it is worth: `Agree`.
+pub mod Parts
+pub mod Agree

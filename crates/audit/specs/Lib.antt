@@ -1,2 +1,2 @@
--- The answer of an audit, with the numbers that the job check found.
-pub mod Answer
+-- The audit: its refusals, what it has shown when it is done, and those of the sheet writer and reader.
+pub mod Audit

@@ -1,77 +1,71 @@
 // The audit of a sheet against a job.
 ghost use mathlib.Core.Path.{_≡_};
 ghost use lib.ListN.{length};
-ghost use Rattle.job.specs.Check.{Passed};
+ghost use Rattle.job.specs.Check.{WellFormed};
 ghost use Rattle.sheet.specs.Sheet.{sheetLength};
-ghost use Rattle.sheet.specs.Audit.{numbersVerdict, againstVerdict, auditVerdict};
-ghost use Rattle.audit.specs.Answer.{auditedOf};
-use crate::check::check_assigned;
-use job::Board;
+ghost use Rattle.audit.specs.Audit.{numbersVerdict, againstVerdict, auditVerdict, auditedOf};
+use crate::heads::check_heads;
+use crate::totals::check_totals;
+use fit::check_fit;
 use job::Checked;
-use job::check::check_job;
-use sheet::head::check_head;
+use job::Head;
+use job::well_formed::check_job;
+use job::well_formed::checked_by;
+use scratch::MOST_NETS;
 use sheet::read::numbers_of;
 use sheet::sheet_length;
-use sheet::totals::check_spread;
-use sheet::totals::check_totals;
 use sheet::totals_at;
-use tally::count::totals_of;
 use words::Place;
 use words::Verdict;
 use words::refuse;
 
 // Refusals 23 to 26 by the sheet's own numbers. No memory is lent to an audit, so the numbers stand in this frame.
-fn check_numbers(job: &[u8], b: Board, sheet: &[u8]) -> Verdict
-    requires { ⌜ Passed (now job) b ⌝ }
-    requires { ⌜ length (now sheet) ≡ sheetLength (b .n) (b .c) ⌝ }
+fn check_numbers(job: &[u8], head: Head, sheet: &[u8]) -> Verdict
+    requires { ⌜ (WellFormed (now job) head) × (length (now sheet) ≡ sheetLength (now job)) ⌝ }
     ensures { λ r. ⌜ r ≡ numbersVerdict (now (job .entry)) (now (sheet .entry)) ⌝ }
 {
-    let mut plan = [0u16; 4096];
-    numbers_of(sheet, b.n, &mut plan);
-    let assigned = check_assigned(23, job, b, &plan);
-    if let Verdict::Refused(_) = assigned {
-        return assigned;
+    let mut plan = [0u16; MOST_NETS];
+    numbers_of(job, head, sheet, &mut plan);
+    let mut totals = [0u16; 128];
+    let fit = check_fit(23, job, head, &plan, &mut totals);
+    if let Verdict::Refused(_) = fit {
+        return fit;
     }
-    let totals = totals_of(&plan, b.n);
-    let spread = check_spread(totals, b.c);
-    if let Verdict::Refused(_) = spread {
-        return spread;
-    }
-    check_totals(sheet, totals_at(b.n), totals, b.c)
+    check_totals(sheet, totals_at(job, head), totals, head.c)
 }
 
 // Refusals 21 to 26, for a job that passed its check.
-fn check_sheet(job: &[u8], b: Board, sheet: &[u8]) -> Verdict
-    requires { ⌜ Passed (now job) b ⌝ }
+pub fn check_sheet(job: &[u8], head: Head, sheet: &[u8]) -> Verdict
+    requires { ⌜ WellFormed (now job) head ⌝ }
     ensures { λ r. ⌜ r ≡ againstVerdict (now (job .entry)) (now (sheet .entry)) ⌝ }
 {
-    if sheet.len() != sheet_length(b) {
+    if sheet.len() != sheet_length(job, head) {
         return refuse(21, Place::Length(sheet.len()));
     }
-    let head = check_head(sheet, b);
-    if let Verdict::Refused(_) = head {
-        return head;
+    let heads = check_heads(job, head, sheet);
+    if let Verdict::Refused(_) = heads {
+        return heads;
     }
-    check_numbers(job, b, sheet)
+    check_numbers(job, head, sheet)
 }
 
-// The audit, with the numbers that the job check found.
+// The audit, with the numbers of the job's head where it is done.
 pub fn audit_job(job: &[u8], sheet: &[u8]) -> Checked
     ensures { λ r. ⌜ r ≡ auditedOf (now (job .entry)) (now (sheet .entry)) ⌝ }
 {
     let checked = check_job(job);
-    let found = checked.verdict;
-    if let Verdict::Refused(_) = found {
+    let Checked::Passed(head) = checked else {
         return checked;
-    }
-    let board = checked.board;
-    let verdict = check_sheet(job, board, sheet);
-    Checked { verdict, board }
+    };
+    checked_by(check_sheet(job, head, sheet), head)
 }
 
 pub fn audit(job: &[u8], sheet: &[u8]) -> Verdict
     ensures { λ r. ⌜ r ≡ auditVerdict (now (job .entry)) (now (sheet .entry)) ⌝ }
 {
-    let found = audit_job(job, sheet);
-    found.verdict
+    let audited = audit_job(job, sheet);
+    match audited {
+        Checked::Passed(_) => Verdict::Done,
+        Checked::Refused(r) => Verdict::Refused(r),
+    }
 }

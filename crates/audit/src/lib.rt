@@ -1,6 +1,4 @@
-// The calls on a sheet: audit, writer, reader, evidence.
+// The audit: refusals 21 to 26 of a sheet against a job, and what the sheet writer refuses by the same parts.
 pub mod audit;
-pub mod check;
-pub mod evidence;
-pub mod read;
-pub mod write;
+pub mod heads;
+pub mod totals;

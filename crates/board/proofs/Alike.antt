@@ -6,21 +6,21 @@ use native.Mathlib.Omega.{arith}
 use lib.Dec.{eqb}
 use Rattle.laws.specs.Sum.{sum, when, greatest, least}
 use Rattle.laws.proofs.Sum.{sum-same}
-use Rattle.board.specs.Job.{Job}
+use Rattle.board.specs.Netlist.{Netlist}
 use Rattle.board.specs.Board.{endsAt, load, total, spread, excess, totalExcess, InRange, Alike}
 use Rattle.board.specs.Rule.{OnTwo, Recoloured}
 
-pub alike-back : (J : Job) (a b : ℕ → ℕ) → Alike J a b → Alike J b a
+pub alike-back : (J : Netlist) (a b : ℕ → ℕ) → Alike J a b → Alike J b a
 alike-back J a b e i l = sym (e i l)
 
 -- loads that agree at every FPGA and crossbar
-pub excess-by-loads : (J : Job) (a b : ℕ → ℕ) → ((v x : ℕ) → v < J .f → x < J .c → load J a v x ≡ load J b v x) → totalExcess J a ≡ totalExcess J b
+pub excess-by-loads : (J : Netlist) (a b : ℕ → ℕ) → ((v x : ℕ) → v < J .f → x < J .c → load J a v x ≡ load J b v x) → totalExcess J a ≡ totalExcess J b
 unfolding totalExcess excess
 excess-by-loads J a b e =
     sum-same (excess J a) (excess J b) (J .f) (λ v lv.
     sum-same (λ x. load J a v x - J .width v) (λ x. load J b v x - J .width v) (J .c) (λ x lx. ap (λ (k : ℕ). k - J .width v) (e v x lv lx)))
 
-module _ (J : Job) (a b : ℕ → ℕ) (e : Alike J a b) where
+module _ (J : Netlist) (a b : ℕ → ℕ) (e : Alike J a b) where
   -- of any amounts g by net
   amount-alike : (g : ℕ → ℕ) (x : ℕ) → sum (λ i. when (eqb (a i) x) (g i)) (J .n) ≡ sum (λ i. when (eqb (b i) x) (g i)) (J .n)
   amount-alike g x =
@@ -45,7 +45,7 @@ module _ (J : Job) (a b : ℕ → ℕ) (e : Alike J a b) where
   in-range-alike h i l = omega (arith, e i l, h i l)
 
 -- the rule asks for no more than the nets' crossbars, before and after
-module _ (J : Job) (A B : ℕ) where
+module _ (J : Netlist) (A B : ℕ) where
   pub rule-alike : (a a′ b b′ : ℕ → ℕ) → Alike J a a′ → Alike J b b′ → Recoloured J a b A B → Recoloured J a′ b′ A B
   rule-alike a a′ b b′ e d r =
       record {

@@ -7,8 +7,8 @@ use native.Mathlib.Decide.{ℕ-discrete, decLe}
 use native.Mathlib.Omega.{arith}
 use lib.Dec.{eqb}
 use Rattle.laws.specs.Sum.{sum, when}
-use Rattle.laws.proofs.Sum.{sum-same, sum-two, sum-pairs, sum-le, sum-less, when-here, when-else}
-use Rattle.board.specs.Job.{Job}
+use Rattle.laws.proofs.Sum.{sum-same, sum-two, sum-pairs, sum-less, when-here, when-else}
+use Rattle.board.specs.Netlist.{Netlist}
 use Rattle.board.specs.Board.{endsAt, load, total, excess, totalExcess, InRange}
 use Rattle.board.specs.Rule.{OnTwo, Moved, Clauses}
 
@@ -26,7 +26,7 @@ module _ (A B x g : ℕ) where
   never y na nb (inl e) = when-else x g y (λ q. na (sym q ∙ e))
   never y na nb (inr e) = when-else x g y (λ q. nb (sym q ∙ e))
 
-module _ (J : Job) (a b : ℕ → ℕ) (A B : ℕ) (m : Moved J a b A B) where
+module _ (J : Netlist) (a b : ℕ → ℕ) (A B : ℕ) (m : Moved J a b A B) where
   pub moved-in-range : A < J .c → B < J .c → InRange J a → InRange J b
   moved-in-range la lb h i l =
       ⊎-elim (λ t. ⊎-elim (λ e. omega (arith)) (λ e. omega (arith)) (m .among i l t))
@@ -71,7 +71,7 @@ module _ (w p q l r : ℕ) (e : l + r ≡ p + q) (low : p + q ≤ 2 * w → (l �
   pub above-less : w < p → q < w → l - w + (r - w) < p - w + (q - w)
   above-less o u = dite (decLe (p + q) (2 * w)) (λ h. omega (arith, low h)) (λ h. omega (arith, high (omega arith)))
 
-module _ (J : Job) (a b : ℕ → ℕ) (A B : ℕ) (m : Moved J a b A B) (la : A < J .c) (lb : B < J .c) (ne : A ≢ B) where
+module _ (J : Netlist) (a b : ℕ → ℕ) (A B : ℕ) (m : Moved J a b A B) (la : A < J .c) (lb : B < J .c) (ne : A ≢ B) where
   module _ (v : ℕ) where
     above : (ℕ → ℕ) → ℕ → ℕ
     above y x = load J y v x - J .width v
@@ -93,10 +93,6 @@ module _ (J : Job) (a b : ℕ → ℕ) (A B : ℕ) (m : Moved J a b A B) (la : A
         omega (arith, by-two, above-less (J .width v) (load J a v A) (load J a v B) (load J b v A) (load J b v B) (loads-together J a b A B m ne v) (k .low) (k .high) o u)
 
   module _ (k : (v : ℕ) → v < J .f → Clauses J a b A B v) where
-    pub totalExcess-no-more : totalExcess J b ≤ totalExcess J a
-    unfolding totalExcess
-    totalExcess-no-more = sum-le (excess J b) (excess J a) (J .f) (λ v l. excess-no-more v (k v l))
-
     pub totalExcess-less : (v : ℕ) → v < J .f → J .width v < load J a v A → load J a v B < J .width v → totalExcess J b < totalExcess J a
     unfolding totalExcess
     totalExcess-less v l o u = sum-less (excess J b) (excess J a) v (J .f) l (λ u q. excess-no-more u (k u q)) (excess-less v (k v l) o u)

@@ -8,11 +8,11 @@ use lib.Dec.{ltb}
 use Rattle.laws.specs.Sum.{when}
 use Rattle.laws.proofs.Sum.{when-at-most}
 use Rattle.laws.proofs.Remainder.{remainders}
-use Rattle.board.specs.Job.{Job}
+use Rattle.board.specs.Netlist.{Netlist}
 use Rattle.board.specs.Board.{total, deal, InRange, Balanced}
 use Rattle.board.proofs.Spread.{near-balanced}
 
-module _ (J : Job) (p : 0 < J .c) where
+module _ (J : Netlist) (p : 0 < J .c) where
   pub deal-total : (x : ℕ) → x < J .c → total J (deal J) x ≡ J .n / J .c + when (ltb x (J .n % J .c)) 1
   unfolding total deal
   deal-total x l = remainders (J .c) x l (J .n)

@@ -5,11 +5,11 @@ use mathlib.Core.Logic.{_↔_}
 use Prim.Native.Nat.{ℕ, _-_, _*_, _≤_, _<_}
 use native.Mathlib.Omega.{arith}
 use Rattle.laws.proofs.Sum.{sum-le, sum-none, none-of-sum}
-use Rattle.board.specs.Job.{Job}
+use Rattle.board.specs.Netlist.{Netlist}
 use Rattle.board.specs.Board.{degree, load, excess, totalExcess, InRange, Legal}
 use Rattle.board.proofs.Loads.{loads-add, degrees-at-most}
 
-module _ (J : Job) (a : ℕ → ℕ) where
+module _ (J : Netlist) (a : ℕ → ℕ) where
   pub excess-at-most : InRange J a → (v : ℕ) → excess J a v ≤ degree J v
   unfolding excess
   excess-at-most h v = omega (arith, loads-add J a h v, sum-le (λ x. load J a v x - J .width v) (load J a v) (J .c) (λ x l. omega arith))

@@ -8,4 +8,3 @@ pub mod Spread
 pub mod Deal
 pub mod Halves
 pub mod Rule
-pub mod Sound

@@ -7,12 +7,12 @@ use native.Mathlib.Omega.{arith}
 use Rattle.laws.specs.Lowest.{Lowest}
 use Rattle.laws.proofs.Sum.{sum-at-most, sum-const, sum-less}
 use Rattle.laws.proofs.Lowest.{lowest}
-use Rattle.board.specs.Job.{Job}
+use Rattle.board.specs.Netlist.{Netlist}
 use Rattle.board.specs.Board.{degree, load, limit, InRange, Legal}
 use Rattle.board.proofs.Loads.{loads-add}
 use Rattle.board.proofs.Excess.{legal-within}
 
-module _ (J : Job) (a : ℕ → ℕ) (h : InRange J a) (v : ℕ) where
+module _ (J : Netlist) (a : ℕ → ℕ) (h : InRange J a) (v : ℕ) where
   pub legal-limit : v < J .f → Legal J a → degree J v ≤ limit J v
   unfolding limit
   legal-limit l z = omega (arith, loads-add J a h v, sum-at-most (load J a v) (J .width v) (J .c) (λ x q. legal-within J a z v x l q))

@@ -10,8 +10,8 @@ use borrow.Author.Tests.{ne-eqb}
 use Rattle.laws.specs.Test.{Says}
 use Rattle.laws.proofs.Cases.{by-two}
 use Rattle.laws.proofs.Test.{eqb-says, leb-says, and-says, or-says, implies-says, every-says}
-use Rattle.board.specs.Job.{Job}
-use Rattle.board.specs.Board.{load, total, spread, totalExcess, InRange, Balanced}
+use Rattle.board.specs.Netlist.{Netlist}
+use Rattle.board.specs.Board.{load, total, spread, totalExcess, InRange}
 use Rattle.board.specs.Rule.{differ, OnTwo, Halves, Clauses, Recoloured, onTwoTest, movedTest, halvesTest, clausesTest, totalsTest, ruleTest}
 use Rattle.board.proofs.Change.{on-two, moved-in-range, total-elsewhere, totals-together, totalExcess-less}
 use Rattle.board.proofs.Spread.{spread-no-more}
@@ -58,7 +58,7 @@ module _ (m s l r : ℕ) where
     λ h. parts .1 ((h .low, h .high), (h .odd, h .even)),
   )
 
-module _ (J : Job) (a b : ℕ → ℕ) (A B : ℕ) where
+module _ (J : Netlist) (a b : ℕ → ℕ) (A B : ℕ) where
   clauses-says : (v : ℕ) → Says (clausesTest J a b A B v) (Clauses J a b A B v)
   unfolding clausesTest
   clauses-says v = halves-says (J .width v) (load J a v A + load J a v B) (load J b v A) (load J b v B)
@@ -85,7 +85,7 @@ module _ (J : Job) (a b : ℕ → ℕ) (A B : ℕ) where
   )
 
 -- What the rule gives: nothing leaves the board, the excess falls and the spread does not widen.
-module _ (J : Job) (a b : ℕ → ℕ) (A B : ℕ) (r : Recoloured J a b A B) (la : A < J .c) (lb : B < J .c) where
+module _ (J : Netlist) (a b : ℕ → ℕ) (A B : ℕ) (r : Recoloured J a b A B) (la : A < J .c) (lb : B < J .c) where
   pub rule-in-range : InRange J a → InRange J b
   rule-in-range = moved-in-range J a b A B (r .moved) la lb
 
@@ -99,18 +99,15 @@ module _ (J : Job) (a b : ℕ → ℕ) (A B : ℕ) (r : Recoloured J a b A B) (l
   pub rule-spread-no-more : A ≢ B → spread J b ≤ spread J a
   rule-spread-no-more ne = spread-no-more J a b A B (r .moved) la lb ne totals-near
 
-  pub rule-balanced : A ≢ B → Balanced J a → Balanced J b
-  rule-balanced ne h = omega (arith, rule-spread-no-more ne)
-
 -- The new totals are fixed by the old: half of the two together on each, and an odd net on A.
-module _ (J : Job) (a b : ℕ → ℕ) (A B : ℕ) (r : Recoloured J a b A B) (ne : A ≢ B) where
+module _ (J : Netlist) (a b : ℕ → ℕ) (A B : ℕ) (r : Recoloured J a b A B) (ne : A ≢ B) where
   pub rule-totals : (total J b A ≡ (total J a A + total J a B + 1) / 2) × (total J b B ≡ (total J a A + total J a B) / 2)
   rule-totals =
       ⊎-elim (λ e. (omega (arith, totals-together J a b A B (r .moved) ne), omega (arith, totals-together J a b A B (r .moved) ne)))
       (λ e. (omega (arith, totals-together J a b A B (r .moved) ne), omega (arith, totals-together J a b A B (r .moved) ne))) (r .totals)
 
 -- so results of starts with the same totals have the same totals
-module _ (J : Job) (a a′ b b′ : ℕ → ℕ) (A B : ℕ) (r : Recoloured J a b A B) (r′ : Recoloured J a′ b′ A B) (ne : A ≢ B) where
+module _ (J : Netlist) (a a′ b b′ : ℕ → ℕ) (A B : ℕ) (r : Recoloured J a b A B) (r′ : Recoloured J a′ b′ A B) (ne : A ≢ B) where
   pub rule-totals-once : total J a A ≡ total J a′ A → total J a B ≡ total J a′ B → (x : ℕ) → total J a x ≡ total J a′ x → total J b x ≡ total J b′ x
   rule-totals-once p q =
       by-two (λ x. total J a x ≡ total J a′ x → total J b x ≡ total J b′ x) A B

@@ -5,12 +5,12 @@ use mathlib.Core.Logic.{_≢_}
 use Prim.Native.Nat.{ℕ, _+_, _≤_, _<_}
 use native.Mathlib.Omega.{arith}
 use Rattle.laws.proofs.Greatest.{greatest-no-more, least-no-less, all-near, ends-near}
-use Rattle.board.specs.Job.{Job}
+use Rattle.board.specs.Netlist.{Netlist}
 use Rattle.board.specs.Board.{total, spread, Balanced}
 use Rattle.board.specs.Rule.{Moved}
 use Rattle.board.proofs.Change.{total-elsewhere, totals-together}
 
-module _ (J : Job) (a b : ℕ → ℕ) (A B : ℕ) (m : Moved J a b A B) (la : A < J .c) (lb : B < J .c) (ne : A ≢ B) where
+module _ (J : Netlist) (a b : ℕ → ℕ) (A B : ℕ) (m : Moved J a b A B) (la : A < J .c) (lb : B < J .c) (ne : A ≢ B) where
   pub spread-no-more : (total J b A ≤ total J b B + 1) × (total J b B ≤ total J b A + 1) → spread J b ≤ spread J a
   unfolding spread
   spread-no-more near =
@@ -21,7 +21,7 @@ module _ (J : Job) (a b : ℕ → ℕ) (A B : ℕ) (m : Moved J a b A B) (la : A
         least-no-less (total J a) (total J b) A B (J .c) la lb other (totals-together J a b A B m ne) near,
       )
 
-module _ (J : Job) (a : ℕ → ℕ) where
+module _ (J : Netlist) (a : ℕ → ℕ) where
   pub balanced-near : Balanced J a → (x y : ℕ) → x < J .c → y < J .c → total J a x ≤ total J a y + 1
   unfolding spread
   balanced-near h = all-near (total J a) 1 (J .c) (omega arith)

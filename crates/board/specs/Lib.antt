@@ -1,4 +1,4 @@
 -- The board's words, as document 01 has them.
-pub mod Job
+pub mod Netlist
 pub mod Board
 pub mod Rule

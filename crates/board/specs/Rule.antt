@@ -5,7 +5,7 @@ use mathlib.Core.Logic.{_≢_, _⊎_}
 use Prim.Native.Nat.{ℕ, _+_, _-_, _*_, _%_, _≤_, _<_}
 use lib.Dec.{eqb, leb}
 use Rattle.laws.specs.Test.{every, implies}
-use Rattle.board.specs.Job.{Job}
+use Rattle.board.specs.Netlist.{Netlist}
 use Rattle.board.specs.Board.{load, total}
 
 -- by how much two numbers differ
@@ -17,7 +17,7 @@ abbrev pub OnTwo : ℕ → ℕ → ℕ → Type 0
 OnTwo A B x = (x ≡ A) ⊎ (x ≡ B)
 
 -- Nets on other crossbars stay; nets on A or B are on A or B.
-pub record Moved (J : Job) (a b : ℕ → ℕ) (A B : ℕ) : Type 0 where
+pub record Moved (J : Netlist) (a b : ℕ → ℕ) (A B : ℕ) : Type 0 where
   pub stay : (i : ℕ) → i < J .n → a i ≢ A → a i ≢ B → b i ≡ a i
   pub among : (i : ℕ) → i < J .n → OnTwo A B (a i) → OnTwo A B (b i)
 
@@ -29,11 +29,11 @@ pub record Halves (m s l r : ℕ) : Type 0 where
   pub even : s % 2 ≡ 0 → (differ l r ≡ 0) ⊎ (differ l r ≡ 2)
 
 -- the same of FPGA v
-abbrev pub Clauses : Job → (ℕ → ℕ) → (ℕ → ℕ) → ℕ → ℕ → ℕ → Type 0
+abbrev pub Clauses : Netlist → (ℕ → ℕ) → (ℕ → ℕ) → ℕ → ℕ → ℕ → Type 0
 Clauses J a b A B v = Halves (J .width v) (load J a v A + load J a v B) (load J b v A) (load J b v B)
 
 -- the whole rule
-pub record Recoloured (J : Job) (a b : ℕ → ℕ) (A B : ℕ) : Type 0 where
+pub record Recoloured (J : Netlist) (a b : ℕ → ℕ) (A B : ℕ) : Type 0 where
   pub moved : Moved J a b A B
   pub clauses : (v : ℕ) → v < J .f → Clauses J a b A B v
   -- the new total of A equals that of B or is one more
@@ -51,11 +51,11 @@ halvesTest m s l r =
     (implies (leb s (2 * m)) (leb l m && leb r m) && implies (leb (2 * m) s) (leb m l && leb m r))
     && (implies (eqb (s % 2) 1) (eqb (differ l r) 1) && implies (eqb (s % 2) 0) (onTwoTest 0 2 (differ l r)))
 
-unfoldable pub clausesTest : Job → (ℕ → ℕ) → (ℕ → ℕ) → ℕ → ℕ → ℕ → Bool
+unfoldable pub clausesTest : Netlist → (ℕ → ℕ) → (ℕ → ℕ) → ℕ → ℕ → ℕ → Bool
 clausesTest J a b A B v = halvesTest (J .width v) (load J a v A + load J a v B) (load J b v A) (load J b v B)
 
 unfoldable pub totalsTest : ℕ → ℕ → Bool
 totalsTest p q = eqb p q || eqb p (q + 1)
 
-unfoldable pub ruleTest : Job → (ℕ → ℕ) → (ℕ → ℕ) → ℕ → ℕ → Bool
+unfoldable pub ruleTest : Netlist → (ℕ → ℕ) → (ℕ → ℕ) → ℕ → ℕ → Bool
 ruleTest J a b A B = every (movedTest a b A B) (J .n) && every (clausesTest J a b A B) (J .f) && totalsTest (total J b A) (total J b B)

@@ -8,8 +8,8 @@ use native.Mathlib.Omega.{arith}
 use Rattle.laws.specs.Sum.{sum}
 use Rattle.laws.specs.Row.{at, row}
 use Rattle.words.specs.Number.{word}
-use Rattle.job.specs.Write.{jobOf}
-use Rattle.board.specs.Job.{jobIn}
+use Rattle.job.specs.Job.{netsAt, jobIn}
+use Rattle.job_writer.specs.Write.{jobOf}
 use Rattle.board.specs.Board.{endsAt, load, total, totalExcess, InRange, Legal}
 use Rattle.round.specs.Round.{RoundStep, Chain, Finished}
 use Rattle.cases.specs.Each.{Among}
@@ -33,7 +33,7 @@ six-every-finish r = (one-round six (dealOf six) (case-holds 6 .1 .1 .0) r, r .e
 
 -- case 7: each net ends at both FPGAs
 both-ends : (a : ℕ → ℕ) (v x : ℕ) → v < jobIn seven .f → load (jobIn seven) a v x ≡ total (jobIn seven) a x
-unfolding load total endsAt sum word jobOf
+unfolding load total endsAt sum word jobOf netsAt
 both-ends a zero x l = refl
 both-ends a (suc zero) x l = refl
 both-ends a (suc (suc v)) x l = let k : suc (suc v) < 2 = l in absurd (omega arith)

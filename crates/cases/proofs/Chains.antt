@@ -8,12 +8,12 @@ use native.Mathlib.Omega.{arith}
 use lib.ListN.{length}
 use Rattle.laws.specs.Row.{at, row}
 use Rattle.laws.proofs.Row.{row-same}
-use Rattle.board.specs.Job.{Job, jobIn}
-use Rattle.board.specs.Board.{load, total, totalExcess, InRange, Legal}
+use Rattle.board.specs.Netlist.{Netlist}
+use Rattle.job.specs.Job.{jobIn}
+use Rattle.board.specs.Board.{load, total, totalExcess, InRange, Legal, WithinLimits}
 use Rattle.board.proofs.Alike.{excess-by-loads}
 use Rattle.board.proofs.Rule.{rule-totals-once}
 use Rattle.search.proofs.Alike.{search-by-loads}
-use Rattle.round.specs.Degree.{WithinLimits}
 use Rattle.round.specs.Round.{RoundStep, Chain, Finished}
 use Rattle.round.proofs.Condition3.{round-not-legal, round-named, condition3}
 use Rattle.round.proofs.Unique.{round-rule}
@@ -25,7 +25,7 @@ use Rattle.cases.proofs.Rounds.{allowed-round, within, in-range}
 
 -- ---- linked stops are a chain of as many rounds as there are stops behind the first
 
-module _ (J : Job) (a : ℕ → ℕ) where
+module _ (J : Netlist) (a : ℕ → ℕ) where
   pub linked-chain : (k : ℕ) (s : Stop) (stops : List Stop) → Chain J a k (at (s .plan)) → Linked J (s ∷ stops)
       → (b : List ℕ) × Chain J a (length stops + k) (at b) × Legal J (at b)
   linked-chain k s [] c h = (s .plan, subst (λ (j : ℕ). Chain J a j (at (s .plan))) (omega arith) c, h)
@@ -47,7 +47,7 @@ each-after P (s ∷ stops) e zero t q = subst P q (e .0)
 each-after P (s ∷ stops) e (suc k) t m = each-after P stops (e .1) k t m
 
 -- a stop is the last, and legal, or a round leads to the next
-follow : (J : Job) (stops : List Stop) → Linked J stops → (k : ℕ) (t : Stop) → After stops k t
+follow : (J : Netlist) (stops : List Stop) → Linked J stops → (k : ℕ) (t : Stop) → After stops k t
     → Legal J (at (t .plan)) ⊎ ((u : Stop) × After stops (suc k) u × RoundStep J (at (t .plan)) (at (u .plan)))
 follow J [] h k t m = absurd h
 follow J (s ∷ []) h zero t q = inl (subst (λ (x : Stop). Legal J (at (x .plan))) q h)
@@ -58,7 +58,7 @@ follow J (s ∷ u ∷ stops) h (suc k) t m = follow J (u ∷ stops) (h .1) k t m
 
 -- ---- where each net ends at every FPGA the totals are the loads, and every chain has the same totals
 
-module _ (J : Job) (w : WithinLimits J) (both : (a : ℕ → ℕ) (v x : ℕ) → v < J .f → load J a v x ≡ total J a x) where
+module _ (J : Netlist) (w : WithinLimits J) (both : (a : ℕ → ℕ) (v x : ℕ) → v < J .f → load J a v x ≡ total J a x) where
   abbrev Same : (ℕ → ℕ) → (ℕ → ℕ) → Type 0
   Same a b = (x : ℕ) → x < J .c → total J a x ≡ total J b x
 

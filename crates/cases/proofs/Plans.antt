@@ -1,6 +1,6 @@
 -- What the rows about plan say, of all lent memory that is long enough and of every assignment.
 -- Assumes nothing.
-use mathlib.Core.Path.{_≡_, refl, ap, sym, subst, _∙_}
+use mathlib.Core.Path.{_≡_, ap, sym, subst, _∙_}
 use mathlib.Core.List.{List, []}
 use Prim.Native.Nat.{ℕ, _≤_}
 use native.Mathlib.Omega.{arith}
@@ -11,16 +11,16 @@ use Rattle.laws.specs.Row.{at, row}
 use Rattle.laws.proofs.Row.{row-at}
 use Rattle.words.specs.declared.Verdict.the-variants as verdict
 use Rattle.words.proofs.Order.{then-first}
-use Rattle.job.specs.Job.{nIn}
-use Rattle.job.specs.Check.{jobVerdict, boardOf}
-use Rattle.board.specs.Job.{Job, jobIn}
+use Rattle.job.specs.Job.{nIn, jobIn}
+use Rattle.job.specs.Check.{jobVerdict}
+use Rattle.board.specs.Netlist.{Netlist}
 use Rattle.board.specs.Board.{InRange, Legal, Alike}
 use Rattle.board.proofs.Alike.{excess-alike}
 use Rattle.scratch.specs.Scratch.{scratchLong}
 use Rattle.sheet.specs.Sheet.{sheetOf}
-use Rattle.sheet.proofs.Agree.{same-sheet}
-use Rattle.round.specs.Start.{planVerdict}
-use Rattle.round.proofs.Starting.{room-enough, fitting}
+use Rattle.sheet.proofs.Saying.{same-sheet}
+use Rattle.refusals.specs.Start.{planVerdict}
+use Rattle.refusals.proofs.Starting.{room-enough, fitting}
 use Rattle.round.proofs.Unique.{chain-from-legal}
 use Rattle.finish.specs.declared.Finish.{Finish}
 use Rattle.finish.specs.declared.Finish.the-variants.{Done}
@@ -41,7 +41,7 @@ any-room job room scratch h l = rw (room-enough (nIn job) room scratch h l, room
 -- whatever plan leaves in the lent memory: no round was made, the excess was 0, and this is the sheet
 module _ (job written : List ℕ) (h : Holds (sheet job written))
     (plan₀ plan s₀ s : List ℕ) (r : Finish) (call : PlanCall job plan₀ plan s₀ s r) (room : nIn job ≤ length plan₀) (long : scratchLong ≤ length s₀) where
-  abbrev J : Job
+  abbrev J : Netlist
   J = jobIn job
 
   sound : jobVerdict job ≡ verdict.Done
@@ -66,7 +66,7 @@ module _ (job written : List ℕ) (h : Holds (sheet job written))
 
   pub sheet-says : (r ≡ Done 0 0) × (sheetOf job (at plan) ≡ written)
   sheet-says =
-      let p = plan-within job plan₀ plan s₀ s r call sound room long (fitting job (nIn job) scratchLong (h .0) (boardOf job) refl .within) in
+      let p = plan-within job plan₀ plan s₀ s r call sound room long (fitting job (nIn job) scratchLong (h .0) .within) in
       by-deal (p .0) (p .1) (p .2) (plan-done job plan₀ plan s₀ s (p .0) (p .1) (subst (PlanCall job plan₀ plan s₀ s) (p .2) call) .1)
 
 -- every legal assignment is among the listed ones

@@ -5,20 +5,23 @@ use mathlib.Core.Bool.{true, false≢true}
 use mathlib.Core.List.{List}
 use mathlib.Core.Logic.{_↔_, _⊎_, inl, inr, ⊎-elim}
 use Prim.Native.Nat.{ℕ}
+use lib.ListN.{length}
 use Rattle.laws.specs.Row.{at, row}
 use Rattle.laws.proofs.Row.{row-at, row-same}
-use Rattle.job.specs.Check.{boardOf}
-use Rattle.board.specs.Job.{Job, jobIn}
-use Rattle.board.specs.Board.{load, total, InRange, Alike, Legal}
+use Rattle.board.specs.Netlist.{Netlist}
+use Rattle.job.specs.Job.{jobIn}
+use Rattle.board.specs.Board.{load, total, InRange, Alike, Legal, WithinLimits}
 use Rattle.board.proofs.Alike.{rule-alike, load-alike, total-alike, excess-alike, alike-back}
 use Rattle.board.proofs.Rule.{rule-says}
 use Rattle.scratch.specs.Scratch.{scratchLong}
 use Rattle.search.specs.declared.Found.{Found}
 use Rattle.search.specs.declared.Found.the-variants.{Settled, Over}
 use Rattle.search.specs.Search.{searchOf}
-use Rattle.round.specs.Degree.{WithinLimits}
 use Rattle.round.specs.Round.{RoundStep, Chain, Finished}
-use Rattle.round.proofs.Starting.{round-fitting, round-in-range}
+use Rattle.words.proofs.Order.{then-first, then-second}
+use Rattle.refusals.specs.Start.{roundVerdict}
+use Rattle.refusals.proofs.Faults.{range-says}
+use Rattle.refusals.proofs.Starting.{fitting}
 use Rattle.round.proofs.Condition3.{round-not-legal, condition3}
 use Rattle.cases.specs.Each.{Each, Among, ways}
 use Rattle.cases.specs.Rounds.{allowedBy, allowed, possible}
@@ -28,7 +31,7 @@ use Rattle.cases.proofs.Each.{each-member, some-member, picked-passes, 
 
 -- ---- a round is what the test allows
 
-module _ (J : Job) (a : ℕ → ℕ) where
+module _ (J : Netlist) (a : ℕ → ℕ) where
   round-by : (b : ℕ → ℕ) (f : Found) → searchOf J a ≡ f → allowedBy f J a b ≡ true → RoundStep J a b
   round-by b Settled e t = absurd (false≢true t)
   round-by b (Over v A B) e t = record { v = v .0; A = A .0; B = B .0; named = e; rule = rule-says J a b (A .0) (B .0) .0 t }
@@ -44,23 +47,25 @@ module _ (J : Job) (a : ℕ → ℕ) where
   round-alike b d e s = record { v = s .v; A = s .A; B = s .B; named = s .named; rule = rule-alike J (s .A) (s .B) a a b d (λ i l. refl) e (s .rule) }
 
 -- an assignment as a list
-as-list : (J : Job) (b : ℕ → ℕ) → Alike J b (at (row b (J .n)))
+as-list : (J : Netlist) (b : ℕ → ℕ) → Alike J b (at (row b (J .n)))
 as-list J b i l = sym (row-at b (J .n) i l)
 
 -- ---- the rows about one round
 
 module _ (job start : List ℕ) (ok : NotRefused job start) where
-  abbrev J : Job
+  abbrev J : Netlist
   J = jobIn job
 
   abbrev a : ℕ → ℕ
   a = at start
 
   pub within : WithinLimits J
-  within = round-fitting job start scratchLong ok (boardOf job) refl .within
+  unfolding roundVerdict
+  within = fitting job (length start) scratchLong (then-first _ _ ok) .within
 
   pub in-range : InRange J a
-  in-range = round-in-range job start scratchLong ok
+  unfolding roundVerdict
+  in-range = range-says J a 13 .0 (then-second _ _ ok)
 
   pub possible-round : (b : List ℕ) → Among b (possible J a) → RoundStep J a (at b)
   possible-round b m = allowed-round J a (at b) (picked-passes (λ d. allowed J a (at d)) b (ways (J .c) (J .n)) m)

@@ -9,27 +9,26 @@ use Rattle.laws.specs.Lowest.{firstWhere}
 use Rattle.laws.specs.Test.{every}
 use Rattle.words.specs.Number.{word}
 use Rattle.words.specs.Verdict.{refuseIf, _then_, firstRefusal}
-use Rattle.job.specs.Check.{outside, rangesVerdict, netVerdict, netsVerdict, jobVerdict}
-use Rattle.job.specs.Write.{jobOf}
-use Rattle.board.specs.Board.{endsAt, degree, load, total, excess, totalExcess, limit}
+use Rattle.job.specs.Job.{netsAt}
+use Rattle.job.specs.Check.{shortVerdict, countVerdict, outside, rangesVerdict, headVerdict, lengthVerdict, netVerdict, netsVerdict, jobVerdict}
+use Rattle.job_writer.specs.Write.{jobOf}
+use Rattle.board.specs.Board.{endsAt, degree, load, total, excess, totalExcess, usable, deal, limit}
 use Rattle.board.specs.Rule.{differ, movedTest, halvesTest, clausesTest, totalsTest, ruleTest}
-use Rattle.tally.specs.Check.{degreeVerdict, rangeVerdict}
 use Rattle.search.specs.Search.{overAt, roomAt, overFpga, fpgaOf, crowdedOf, roomOf, searchOf}
-use Rattle.round.specs.Start.{roomVerdict, planVerdict, roundVerdict}
-use Rattle.finish.specs.Plan.{dealtOver}
+use Rattle.refusals.specs.Refusals.{roomVerdict, degreeVerdict, rangeVerdict}
+use Rattle.refusals.specs.Start.{planVerdict, roundVerdict}
+use Rattle.finish.specs.Plan.{dealtUpTo}
 use Rattle.sheet.specs.Sheet.{sheetOf}
-use Rattle.sheet.specs.Audit.{
-  differs,
-  headVerdict,
-  loadsVerdict,
-  assignedVerdict,
-  spreadVerdict,
+use Rattle.fit.specs.Fit.{loadsVerdict, low, spreadVerdict, fitVerdict}
+use Rattle.audit.specs.Audit.{
+  unlike,
+  headsVerdict,
+  wrong,
   totalsVerdict,
   numbersVerdict,
   againstVerdict,
   auditVerdict,
   lentVerdict,
-  fitVerdict,
   writeSheetVerdict,
 }
 use Rattle.cases.specs.Table.{table, rowsOf}
@@ -43,10 +42,11 @@ _and_ a b = (a, b)
 
 -- a line for each row
 pub table-holds : AllHold table
-unfolding sum greatest row firstWhere every word refuseIf _then_ firstRefusal outside rangesVerdict netVerdict netsVerdict jobVerdict jobOf endsAt
-    degree load total excess totalExcess limit differ movedTest halvesTest clausesTest totalsTest ruleTest degreeVerdict rangeVerdict overAt roomAt
-    overFpga fpgaOf crowdedOf roomOf searchOf roomVerdict planVerdict roundVerdict dealtOver sheetOf differs headVerdict loadsVerdict assignedVerdict
-    spreadVerdict totalsVerdict numbersVerdict againstVerdict auditVerdict lentVerdict fitVerdict writeSheetVerdict
+unfolding sum greatest row firstWhere every word refuseIf _then_ firstRefusal netsAt shortVerdict countVerdict outside rangesVerdict headVerdict
+    lengthVerdict netVerdict netsVerdict jobVerdict jobOf endsAt degree load total excess totalExcess usable deal limit differ movedTest halvesTest
+    clausesTest totalsTest ruleTest degreeVerdict rangeVerdict overAt roomAt overFpga fpgaOf crowdedOf roomOf searchOf roomVerdict planVerdict
+    roundVerdict dealtUpTo sheetOf unlike headsVerdict loadsVerdict low spreadVerdict wrong totalsVerdict fitVerdict numbersVerdict againstVerdict
+    auditVerdict lentVerdict writeSheetVerdict
 table-holds =
     (refl, refl, refl, refl, refl)
     and (refl, refl, refl, refl, refl)

@@ -9,13 +9,13 @@ use Rattle.laws.specs.Row.{at, row}
 use Rattle.words.specs.declared.Verdict.{Verdict}
 use Rattle.words.specs.declared.Verdict.the-variants.{Done}
 use Rattle.words.specs.Verdict.{numberOf, pOf, qOf}
-use Rattle.job.specs.Job.{nIn}
-use Rattle.board.specs.Job.{Job, jobIn}
+use Rattle.job.specs.Job.{nIn, jobIn}
+use Rattle.board.specs.Netlist.{Netlist}
 use Rattle.board.specs.Board.{degree, limit, load, total, totalExcess, Legal}
 use Rattle.scratch.specs.Scratch.{scratchLong}
-use Rattle.round.specs.Start.{planVerdict, roundVerdict}
+use Rattle.refusals.specs.Start.{planVerdict, roundVerdict}
 use Rattle.sheet.specs.Sheet.{sheetOf}
-use Rattle.sheet.specs.Audit.{auditVerdict, writeSheetVerdict}
+use Rattle.audit.specs.Audit.{auditVerdict, writeSheetVerdict}
 use Rattle.cases.specs.Each.{Each, Some, picked, ways}
 use Rattle.cases.specs.Rounds.{allowed, possible}
 use Rattle.cases.specs.Table.{Stop, Row, dealOf}
@@ -29,17 +29,17 @@ verdictOn job = planVerdict job (nIn job) scratchLong
 abbrev pub NotRefused : List ℕ → List ℕ → Type 0
 NotRefused job start = roundVerdict job start scratchLong ≡ Done
 
-abbrev pub loadsOf : Job → List ℕ → ℕ → List ℕ
+abbrev pub loadsOf : Netlist → List ℕ → ℕ → List ℕ
 loadsOf J plan v = row (load J (at plan) v) (J .c)
 
-abbrev pub totalsOf : Job → List ℕ → List ℕ
+abbrev pub totalsOf : Netlist → List ℕ → List ℕ
 totalsOf J plan = row (total J (at plan)) (J .c)
 
-abbrev pub excessOf : Job → List ℕ → ℕ
+abbrev pub excessOf : Netlist → List ℕ → ℕ
 excessOf J plan = totalExcess J (at plan)
 
 -- each plan but the first comes from the one before it by a round, and the last is legal
-abbrev pub Linked : Job → List Stop → Type 0
+abbrev pub Linked : Netlist → List Stop → Type 0
 Linked J [] = ⊥
 Linked J (s ∷ []) = Legal J (at (s .plan))
 Linked J (s ∷ t ∷ stops) = (allowed J (at (s .plan)) (at (t .plan)) ≡ true) × Linked J (t ∷ stops)

@@ -4,8 +4,8 @@ use Prim.Native.Nat.{ℕ}
 use lib.Dec.{eqb}
 use lib.ListN.{length, replicate}
 use Rattle.words.specs.Number.{bytes}
-use Rattle.job.specs.Write.{jobOf}
-use Rattle.board.specs.Job.{jobIn}
+use Rattle.job_writer.specs.Write.{jobOf}
+use Rattle.job.specs.Job.{jobIn}
 use Rattle.finish.specs.Plan.{dealt}
 use Rattle.cases.specs.Each.{picked}
 

@@ -11,19 +11,18 @@ use Rattle.words.specs.declared.Refusal.{Refusal}
 use Rattle.words.specs.declared.Verdict.{Verdict}
 use Rattle.words.specs.declared.Verdict.the-variants as verdict
 use Rattle.words.specs.Verdict.{atFpga}
-use Rattle.job.specs.Job.{nIn}
-use Rattle.job.specs.Check.{jobVerdict, boardOf}
-use Rattle.board.specs.Job.{Job, jobIn}
-use Rattle.board.specs.Board.{degree, limit, InRange, Legal}
+use Rattle.job.specs.Job.{nIn, jobIn}
+use Rattle.job.specs.Check.{jobVerdict}
+use Rattle.board.specs.Netlist.{Netlist}
+use Rattle.board.specs.Board.{degree, limit, InRange, Legal, WithinLimits}
 use Rattle.board.proofs.Excess.{totalExcess-at-most}
 use Rattle.scratch.specs.Scratch.{scratchLong}
-use Rattle.round.specs.Degree.{WithinLimits}
 use Rattle.round.specs.Round.{ImprovesBy, Planned}
-use Rattle.round.specs.Start.{planVerdict, roundVerdict}
+use Rattle.refusals.specs.Start.{planVerdict, roundVerdict}
 use Rattle.round.specs.OneRound.{Untouched}
-use Rattle.round.proofs.Starting.{ready}
+use Rattle.refusals.proofs.Starting.{ready}
 use Rattle.round.proofs.Chains.{chain-improves, chain-short}
-use Rattle.round.proofs.Condition2.{no-assignment, plan-accepted, plan-refusal}
+use Rattle.refusals.proofs.Condition2.{no-assignment, plan-accepted, plan-refusal}
 use Rattle.finish.specs.declared.Finish.{Finish}
 use Rattle.finish.specs.declared.Finish.the-variants.{Done, Refused}
 use Rattle.finish.specs.Finish.{AnsweredBy, FinishedIn, FinishCall}
@@ -42,7 +41,7 @@ module _ (kept : Type 0) (made : ℕ → ℕ → Type 0) where
 -- condition 2: a sound job with room enough
 module _ (job plan₀ plan s₀ s : List ℕ) (r : Finish) (call : PlanCall job plan₀ plan s₀ s r)
     (sound : jobVerdict job ≡ verdict.Done) (nets : nIn job ≤ length plan₀) (long : scratchLong ≤ length s₀) where
-  abbrev J : Job
+  abbrev J : Netlist
   J = jobIn job
 
   -- with a degree above the limit it is refused, at the lowest such FPGA; nothing is written, and no assignment is legal
@@ -83,14 +82,14 @@ module _ (job plan₀ plan s₀ s : List ℕ) (k e : ℕ) (call : FinishCall job
   -- no FPGA's excess has risen, the spread has not widened, every net is on the board, and nothing is over
   pub finish-improves : ImprovesBy (jobIn job) (at plan₀) (at plan) k × Legal (jobIn job) (at plan)
   finish-improves =
-      let g = ready job plan₀ s₀ (both .0) (boardOf job) refl in
+      let g = ready job plan₀ s₀ (both .0) in
       let f = both .1 .finished in
       (chain-improves (jobIn job) (at plan₀) (g .fitting .within) (g .in-range) (f .chain), f .legal)
 
   -- at most as many rounds as the excess, which is at most two for each net
   pub finish-short : (k ≤ e) × (e ≤ 2 * nIn job)
   finish-short =
-      let g = ready job plan₀ s₀ (both .0) (boardOf job) refl in
+      let g = ready job plan₀ s₀ (both .0) in
       let f = both .1 .finished in (
         omega (arith, f .excess, chain-short (jobIn job) (at plan₀) (g .fitting .within) (g .in-range) (f .chain)),
         omega (arith, f .excess, totalExcess-at-most (jobIn job) (at plan₀) (g .in-range)),

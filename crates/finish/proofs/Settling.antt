@@ -7,22 +7,22 @@ use native.Mathlib.Omega.{arith}
 use Rattle.laws.specs.Row.{at}
 use Rattle.words.specs.declared.Fpga.{Fpga}
 use Rattle.words.specs.declared.Crossbar.{Crossbar}
-use Rattle.job.specs.declared.Board.{Board}
-use Rattle.board.specs.Job.{jobIn}
+use Rattle.job.specs.declared.Head.{Head}
+use Rattle.job.specs.Job.{jobIn}
 use Rattle.board.specs.Board.{totalExcess}
 use Rattle.scratch.specs.Scratch.{scratchLong, cleared}
 use Rattle.search.specs.declared.Found.{Found}
 use Rattle.search.specs.declared.Found.the-variants as found
 use Rattle.round.specs.Round.{Chain}
-use Rattle.round.specs.Start.{Ready}
+use Rattle.refusals.specs.Start.{Ready}
 use Rattle.round.specs.OneRound.{Stepped}
 use Rattle.round.proofs.Chains.{chain-more, chain-at-most}
 use Rattle.round.proofs.Stepping.{step-settled, step-legal, step-moved, step-round, step-less, step-ready}
 use Rattle.round.proofs.Calling.{cleared-since}
 use Rattle.finish.specs.declared.Finish.the-variants.{Done}
-use Rattle.finish.specs.Finish.{Chained, Settled, Answer}
+use Rattle.finish.specs.Finish.{Chained, SettledIn, Answer}
 
-module _ (job : List ℕ) (b : Board) (plan₀ s₀ : List ℕ) (ready₀ : Ready job b plan₀ s₀) where
+module _ (job : List ℕ) (b : Head) (plan₀ s₀ : List ℕ) (ready₀ : Ready job b plan₀ s₀) where
   -- no round yet
   pub chained-none : Chained job b plan₀ plan₀ s₀ s₀ 0
   chained-none = record { ready = ready₀; chain = Chain.none; long = refl; beyond = refl; scratch-long = refl; scratch-beyond = refl }
@@ -52,13 +52,13 @@ module _ (job : List ℕ) (b : Board) (plan₀ s₀ : List ℕ) (ready₀ : Read
         chained-less = step-less job b plan s (q .ready) r plan′ s′ m v A B e
 
       -- nothing is over any more
-      pub chained-settled : r ≡ found.Settled → Settled job b plan₀ plan′ s₀ s′ k
+      pub chained-settled : r ≡ found.Settled → SettledIn job b plan₀ plan′ s₀ s′ k
       chained-settled e =
           let u = step-settled job b plan s (q .ready) r plan′ s′ m e in
           rw (u .plan-same, u .scratch-same) (record { chained = q; legal = step-legal job b plan s (q .ready) r plan′ s′ m e })
 
   -- the answer, once the scratch is cleared
-  pub answered : (plan s s′ : List ℕ) (k e : ℕ) → Settled job b plan₀ plan s₀ s k → s′ ≡ cleared scratchLong s → e ≡ totalExcess (jobIn job) (at plan₀)
+  pub answered : (plan s s′ : List ℕ) (k e : ℕ) → SettledIn job b plan₀ plan s₀ s k → s′ ≡ cleared scratchLong s → e ≡ totalExcess (jobIn job) (at plan₀)
       → Answer job plan₀ plan s₀ s′ (Done k e)
   answered plan s s′ k e t z x =
       record {

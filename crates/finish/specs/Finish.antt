@@ -6,12 +6,12 @@ use lib.ListN.{length, drop}
 use Rattle.laws.specs.Row.{at}
 use Rattle.words.specs.declared.Verdict.{Verdict}
 use Rattle.words.specs.declared.Verdict.the-variants as verdict
-use Rattle.job.specs.declared.Board.{Board}
-use Rattle.board.specs.Job.{jobIn}
+use Rattle.job.specs.declared.Head.{Head}
+use Rattle.job.specs.Job.{jobIn}
 use Rattle.board.specs.Board.{Legal}
 use Rattle.scratch.specs.Scratch.{scratchLong}
 use Rattle.round.specs.Round.{Chain, Finished}
-use Rattle.round.specs.Start.{roundVerdict, Ready}
+use Rattle.refusals.specs.Start.{roundVerdict, Ready}
 use Rattle.round.specs.OneRound.{Untouched, Accepted}
 use Rattle.finish.specs.declared.Finish.{Finish}
 use Rattle.finish.specs.declared.Finish.the-variants.{Done, Refused}
@@ -34,17 +34,17 @@ pub record FinishCall (job plan₀ plan s₀ s : List ℕ) (r : Finish) : Type 0
 -- ---- the rounds inside, which leave their work in the scratch
 
 -- k rounds were made, and another may be
-pub record Chained (job : List ℕ) (b : Board) (plan₀ plan s₀ s : List ℕ) (k : ℕ) : Type 0 where
-  pub ready : Ready job b plan s
+pub record Chained (job : List ℕ) (h : Head) (plan₀ plan s₀ s : List ℕ) (k : ℕ) : Type 0 where
+  pub ready : Ready job h plan s
   pub chain : Chain (jobIn job) (at plan₀) k (at plan)
   pub long : length plan ≡ length plan₀
-  pub beyond : drop (b .n) plan ≡ drop (b .n) plan₀
+  pub beyond : drop (h .n) plan ≡ drop (h .n) plan₀
   pub scratch-long : length s ≡ length s₀
   pub scratch-beyond : drop scratchLong s ≡ drop scratchLong s₀
 
 -- and no other is needed
-pub record Settled (job : List ℕ) (b : Board) (plan₀ plan s₀ s : List ℕ) (k : ℕ) : Type 0 where
-  pub chained : Chained job b plan₀ plan s₀ s k
+pub record SettledIn (job : List ℕ) (h : Head) (plan₀ plan s₀ s : List ℕ) (k : ℕ) : Type 0 where
+  pub chained : Chained job h plan₀ plan s₀ s k
   pub legal : Legal (jobIn job) (at plan)
 
 -- the answer where nothing is refused

@@ -1,17 +1,21 @@
 // The deal: where the nets start.
 ghost use mathlib.Core.Path.{_≡_};
-ghost use Prim.Native.Nat.{_%_, _≤_, _<_};
+ghost use Prim.Native.Nat.{_≤_};
 ghost use lib.ListN.{length};
-ghost use Rattle.finish.specs.Plan.{dealtOver};
+ghost use Rattle.job.specs.Job.{jobIn};
+ghost use Rattle.job.specs.Check.{WellFormed};
+ghost use Rattle.finish.specs.Plan.{dealt};
+use job::Head;
+use job::wires::dealt_to;
 
-// Net i starts on crossbar i mod c.
-pub(crate) fn deal(plan: &mut [u16], n: usize, c: usize)
-    requires { ⌜ (n ≤ length (now plan)) × (0 < c) × (c ≤ 128) ⌝ }
-    ensures { λ _. ⌜ now (plan .exit) ≡ dealtOver c n (now (plan .entry)) ⌝ }
+// Each net to the crossbar that it is dealt.
+pub(crate) fn deal(job: &[u8], head: Head, plan: &mut [u16])
+    requires { ⌜ (WellFormed (now job) head) × (head .n ≤ length (now plan)) ⌝ }
+    ensures { λ _. ⌜ now (plan .exit) ≡ dealt (jobIn (now (job .entry))) (now (plan .entry)) ⌝ }
 {
     let mut i: usize = 0;
-    while i < n {
-        plan[i] = (i % c) as u16;
+    while i < head.n {
+        plan[i] = dealt_to(job, head, i) as u16;
         i += 1;
     }
 }

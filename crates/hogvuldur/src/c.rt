@@ -4,9 +4,10 @@ ghost use lib.ListN.{length};
 ghost use Rattle.laws.specs.Row.{at, row};
 ghost use Rattle.words.specs.Lent.{roomAfter};
 ghost use Rattle.job.specs.Job.{nIn};
-ghost use Rattle.job.specs.Check.{jobVerdict, boardOf};
+ghost use Rattle.job.specs.Check.{jobVerdict, checkedOf};
 ghost use Rattle.job.specs.Read.{netAt};
-ghost use Rattle.job.specs.Write.{writeVerdict, jobOf};
+ghost use Rattle.job_writer.specs.Write.{writeVerdict, jobOf};
+ghost use Rattle.reader.specs.Held.{numbersOf};
 ghost use Rattle.spare.specs.Spare.{spareRoom, headroomRoom};
 ghost use Rattle.round.specs.declared.Round.{Round};
 ghost use Rattle.round.specs.OneRound.{OneRound};
@@ -14,20 +15,21 @@ ghost use Rattle.finish.specs.declared.Finish.{Finish};
 ghost use Rattle.finish.specs.Finish.{FinishCall};
 ghost use Rattle.finish.specs.Plan.{PlanCall};
 ghost use Rattle.sheet.specs.Sheet.{sheetOf, crossbarIn};
-ghost use Rattle.sheet.specs.Audit.{auditVerdict, readSheetVerdict, writeSheetVerdict};
-ghost use Rattle.sheet.specs.Evidence.{auditFault};
+ghost use Rattle.audit.specs.Audit.{auditVerdict, readSheetVerdict, writeSheetVerdict};
+ghost use Rattle.evidence.specs.Evidence.{auditFault};
 ghost use Rattle.tell.specs.InC.{verdictInC, numbersInC, netInC, sectionInC, roundInC, finishInC, faultInC, roomInC, Told};
 use crate::check;
 use audit::audit::audit;
-use audit::evidence::find_fault;
-use audit::read::read_sheet;
-use audit::write::write_sheet;
+use evidence::find_fault;
 use finish::calls::finish;
 use finish::calls::plan;
-use job::read::board_of;
-use job::write::write_job;
+use job::well_formed::check_job;
+use job_writer::write_job;
 use reader::net_of_job;
+use reader::numbers_of;
 use round::one_round;
+use sheet_calls::read_sheet;
+use sheet_calls::write_sheet;
 use spare::headroom;
 use spare::spare;
 use tell::tell_fault;
@@ -51,23 +53,23 @@ pub extern "C" fn hogvuldur_check(job: &[u8], answer: &mut [u64; 4]) -> u16
 
 #[no_mangle]
 pub extern "C" fn hogvuldur_numbers(job: &[u8], answer: &mut [u64; 4])
-    ensures { λ r. ⌜ now (answer .exit) ≡ numbersInC (boardOf (now (job .entry))) ⌝ }
+    ensures { λ r. ⌜ now (answer .exit) ≡ numbersInC (numbersOf (checkedOf (now (job .entry)))) ⌝ }
 {
-    tell_numbers(board_of(job), answer);
+    tell_numbers(numbers_of(job), answer);
 }
 
 #[no_mangle]
 pub extern "C" fn hogvuldur_net(job: &[u8], i: u16, answer: &mut [u64; 4]) -> u16
-    ensures { λ r. ⌜ (r, now (answer .exit)) ≡ netInC (netAt (now (job .entry)) (boardOf (now (job .entry))) i) ⌝ }
+    ensures { λ r. ⌜ (r, now (answer .exit)) ≡ netInC (netAt (now (job .entry)) (numbersOf (checkedOf (now (job .entry))) .n .0) i) ⌝ }
 {
     tell_net(net_of_job(job, Net(i)), answer)
 }
 
 #[no_mangle]
 pub extern "C" fn hogvuldur_net_section(job: &[u8], answer: &mut [u64; 4])
-    ensures { λ r. ⌜ now (answer .exit) ≡ sectionInC (boardOf (now (job .entry))) ⌝ }
+    ensures { λ r. ⌜ now (answer .exit) ≡ sectionInC (checkedOf (now (job .entry))) ⌝ }
 {
-    tell_section(board_of(job), answer);
+    tell_section(check_job(job), answer);
 }
 
 #[no_mangle]
@@ -146,7 +148,7 @@ pub extern "C" fn hogvuldur_read_sheet(
     answer: &mut [u64; 4],
 ) -> u16
     ensures { λ r. ⌜ (r, now (answer .exit)) ≡ verdictInC (readSheetVerdict (now (job .entry)) (now (sheet .entry)) (length (now (plan .entry)))) ⌝ }
-    ensures { λ r. ⌜ now (plan .exit) ≡ roomAfter (readSheetVerdict (now (job .entry)) (now (sheet .entry)) (length (now (plan .entry)))) (row (crossbarIn (now (sheet .entry))) (nIn (now (job .entry)))) (now (plan .entry)) ⌝ }
+    ensures { λ r. ⌜ now (plan .exit) ≡ roomAfter (readSheetVerdict (now (job .entry)) (now (sheet .entry)) (length (now (plan .entry)))) (row (crossbarIn (now (job .entry)) (now (sheet .entry))) (nIn (now (job .entry)))) (now (plan .entry)) ⌝ }
 {
     tell_verdict(read_sheet(job, sheet, plan), answer)
 }

@@ -1,7 +1,8 @@
 // All calls in one place. Each is proved in the crate of its layer; c.rt has their C form.
 ghost use mathlib.Core.Path.{_≡_};
 ghost use Rattle.job.specs.Check.{jobVerdict};
-use job::check::check_job;
+use job::Checked;
+use job::well_formed::check_job;
 
 pub mod c;
 
@@ -19,7 +20,7 @@ pub use words::q_of;
 // The job: its reader, its net section, its writer.
 pub use job::NetEnds;
 pub use job::read::net_section;
-pub use job::write::write_job;
+pub use job_writer::write_job;
 pub use reader::Numbers;
 pub use reader::Reader;
 pub use reader::net;
@@ -42,13 +43,17 @@ pub use round::one_round;
 
 // The sheet.
 pub use audit::audit::audit;
-pub use audit::evidence::evidence;
-pub use audit::read::read_sheet;
-pub use audit::write::write_sheet;
+pub use evidence::evidence;
+pub use sheet_calls::read_sheet;
+pub use sheet_calls::write_sheet;
 
 // The job check.
 pub fn check(job: &[u8]) -> Verdict
     ensures { λ r. ⌜ r ≡ jobVerdict (now (job .entry)) ⌝ }
 {
-    check_job(job).verdict
+    let checked = check_job(job);
+    match checked {
+        Checked::Passed(_) => Verdict::Done,
+        Checked::Refused(r) => Verdict::Refused(r),
+    }
 }

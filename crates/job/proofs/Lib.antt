@@ -1,7 +1,6 @@
 -- The laws of the job file.
 pub mod Nets
-pub mod Refusals
+pub mod Stages
 pub mod Passing
+pub mod Sound
 pub mod Reading
-pub mod Writing
-pub mod RoundTrip

@@ -6,12 +6,23 @@ use Prim.Native.Nat.{ℕ, _+_, _*_, _%_, _≤_, _<_}
 use lib.Dec.{ltb, leb, eqb}
 use lib.ListN.{length}
 use Rattle.words.specs.declared.Verdict.{Verdict}
-use Rattle.words.specs.declared.Verdict.the-variants.{Done, Refused}
+use Rattle.words.specs.declared.Verdict.the-variants as verdict
 use Rattle.words.specs.Verdict.{refuseIf, _then_, firstRefusal, atByte, atNet, ofLength}
 use Rattle.words.specs.Number.{word}
-use Rattle.job.specs.declared.Board.{Board}
+use Rattle.job.specs.declared.Head.{Head}
 use Rattle.job.specs.declared.Checked.{Checked}
-use Rattle.job.specs.Job.{fAt, cAt, mAt, nAt, netsAt, jobLength, fIn, cIn, mIn, nIn, firstIn, secondIn}
+use Rattle.job.specs.declared.Checked.the-variants.{Passed, Refused}
+use Rattle.job.specs.Job.{fAt, cAt, mAt, nAt, headLong, netsAt, jobLength, fIn, cIn, mIn, nIn, headIn, firstIn, secondIn}
+
+-- ---- the stages
+
+-- too short for a head
+unfoldable pub shortVerdict : List ℕ → Verdict
+shortVerdict job = refuseIf (ltb (length job) headLong) 1 (ofLength (length job))
+
+-- the board's count
+unfoldable pub countVerdict : List ℕ → Verdict
+countVerdict job = refuseIf (not (eqb (word job 0) 3)) 2 (atByte 0)
 
 -- x is below the smallest or above the largest
 unfoldable pub outside : ℕ → ℕ → ℕ → Bool
@@ -26,6 +37,16 @@ rangesVerdict f c m n =
     refuseIf (eqb (m % 2) 1) 6 (atByte mAt) then
     refuseIf (ltb 4096 n) 7 (atByte nAt)
 
+-- the head: 1 to 7
+unfoldable pub headVerdict : List ℕ → Verdict
+headVerdict job = shortVerdict job then countVerdict job then rangesVerdict (fIn job) (cIn job) (mIn job) (nIn job)
+
+-- length against n: 1 and 8
+unfoldable pub lengthVerdict : List ℕ → Verdict
+lengthVerdict job =
+    refuseIf (ltb (length job) (jobLength job)) 1 (ofLength (length job)) then
+    refuseIf (ltb (jobLength job) (length job)) 8 (atByte (jobLength job))
+
 -- net i, between FPGAs v and w: a number at or above f, then the same number twice
 unfoldable pub netVerdict : ℕ → ℕ → ℕ → ℕ → Verdict
 netVerdict f i v w =
@@ -37,33 +58,18 @@ netVerdict f i v w =
 unfoldable pub netsVerdict : ℕ → (ℕ → ℕ) → (ℕ → ℕ) → ℕ → Verdict
 netsVerdict f first second n = firstRefusal (λ i. netVerdict f i (first i) (second i)) n
 
+-- ---- the check
+
 unfoldable pub jobVerdict : List ℕ → Verdict
-jobVerdict job =
-    refuseIf (ltb (length job) netsAt) 1 (ofLength (length job)) then
-    refuseIf (not (eqb (word job 0) 3)) 2 (atByte 0) then
-    rangesVerdict (fIn job) (cIn job) (mIn job) (nIn job) then
-    refuseIf (ltb (length job) (jobLength (nIn job))) 1 (ofLength (length job)) then
-    refuseIf (ltb (jobLength (nIn job)) (length job)) 8 (atByte (jobLength (nIn job))) then
-    netsVerdict (fIn job) (firstIn job) (secondIn job) (nIn job)
+jobVerdict job = headVerdict job then lengthVerdict job then netsVerdict (fIn job) (firstIn job) (secondIn job) (nIn job)
 
--- the board's numbers as they stand in the job, and where the nets start
-abbrev pub numbersIn : List ℕ → Board
-numbersIn job = record { f = fIn job; c = cIn job; m = mIn job; n = nIn job; start = netsAt }
+-- a verdict as an answer: passed, with the numbers of the job's head; or refused
+abbrev pub checkedBy : Verdict → Head → Checked
+checkedBy verdict.Done h = Passed h
+checkedBy (verdict.Refused r) h = Refused r
 
-abbrev pub noBoard : Board
-noBoard = record { f = 0; c = 0; m = 0; n = 0; start = 0 }
-
--- the numbers of a job that passes; of a refused job zeros
-abbrev pub boardBy : Verdict → List ℕ → Board
-boardBy Done job = numbersIn job
-boardBy (Refused r) job = noBoard
-
-unfoldable pub boardOf : List ℕ → Board
-boardOf job = boardBy (jobVerdict job) job
-
--- the job check's answer
 abbrev pub checkedOf : List ℕ → Checked
-checkedOf job = record { verdict = jobVerdict job; board = boardOf job }
+checkedOf job = checkedBy (jobVerdict job) (headIn job)
 
 -- ---- what a check that is done has shown
 
@@ -77,19 +83,19 @@ pub record Ranged (f c m n : ℕ) : Type 0 where
   pub even : m % 2 ≡ 0
   pub n-high : n ≤ 4096
 
--- net i, between FPGAs v and w
+-- a net between FPGAs v and w
 pub record Joins (f v w : ℕ) : Type 0 where
   pub first-in : v < f
   pub second-in : w < f
   pub apart : v ≡ w → ⊥
 
--- a job that passed the check, and the board's numbers that the check found
-pub record Passed (job : List ℕ) (b : Board) : Type 0 where
-  pub f : b .f ≡ fIn job
-  pub c : b .c ≡ cIn job
-  pub m : b .m ≡ mIn job
-  pub n : b .n ≡ nIn job
-  pub start : b .start ≡ netsAt
-  pub ranged : Ranged (b .f) (b .c) (b .m) (b .n)
-  pub long : length job ≡ jobLength (b .n)
-  pub nets : (i : ℕ) → i < b .n → Joins (b .f) (firstIn job i) (secondIn job i)
+-- a job that passed the check, and the numbers of its head
+pub record WellFormed (job : List ℕ) (h : Head) : Type 0 where
+  pub f : h .f ≡ fIn job
+  pub c : h .c ≡ cIn job
+  pub m : h .m ≡ mIn job
+  pub n : h .n ≡ nIn job
+  pub start : h .start ≡ netsAt job
+  pub ranged : Ranged (h .f) (h .c) (h .m) (h .n)
+  pub long : length job ≡ h .start + 4 * h .n
+  pub nets : (i : ℕ) → i < h .n → Joins (h .f) (firstIn job i) (secondIn job i)

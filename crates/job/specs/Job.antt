@@ -1,10 +1,13 @@
 -- The job file: count 3, then f, c, m; count n, then n pairs of FPGA numbers. All numbers are two bytes.
+-- What stands before the nets is the job's head.
 use mathlib.Core.List.{List}
 use Prim.Native.Nat.{ℕ, _+_, _*_}
 use lib.ListN.{drop}
 use Rattle.words.specs.Number.{word, numbers}
+use Rattle.board.specs.Netlist.{Netlist}
+use Rattle.job.specs.declared.Head.{Head}
 
--- the byte of each number, and of the first net
+-- the byte of each number in the head, and the head's length: no other crate asks for these
 abbrev pub fAt : ℕ
 fAt = 2
 
@@ -17,12 +20,12 @@ mAt = 6
 abbrev pub nAt : ℕ
 nAt = 8
 
-abbrev pub netsAt : ℕ
-netsAt = 10
+abbrev pub headLong : ℕ
+headLong = 10
 
--- the length of a job of n nets
-abbrev pub jobLength : ℕ → ℕ
-jobLength n = netsAt + 4 * n
+-- the byte where the nets of a job start
+unfoldable pub netsAt : List ℕ → ℕ
+netsAt job = headLong
 
 -- what a job says
 abbrev pub fIn : List ℕ → ℕ
@@ -37,13 +40,25 @@ mIn job = word job mAt
 abbrev pub nIn : List ℕ → ℕ
 nIn job = word job nAt
 
+-- its head
+abbrev pub headIn : List ℕ → Head
+headIn job = record { f = fIn job; c = cIn job; m = mIn job; n = nIn job; start = netsAt job }
+
+-- the length of a job
+abbrev pub jobLength : List ℕ → ℕ
+jobLength job = netsAt job + 4 * nIn job
+
 -- the two FPGAs of net i
 abbrev pub firstIn : List ℕ → ℕ → ℕ
-firstIn job i = word job (netsAt + 4 * i)
+firstIn job i = word job (netsAt job + 4 * i)
 
 abbrev pub secondIn : List ℕ → ℕ → ℕ
-secondIn job i = word job (netsAt + 2 + 4 * i)
+secondIn job i = word job (netsAt job + 2 + 4 * i)
 
 -- all FPGA numbers of its nets, two for each net
 abbrev pub netsIn : List ℕ → List ℕ
-netsIn job = numbers (drop netsAt job)
+netsIn job = numbers (drop (netsAt job) job)
+
+-- the netlist that these bytes are
+abbrev pub jobIn : List ℕ → Netlist
+jobIn job = record { f = fIn job; c = cIn job; width = λ _. mIn job; n = nIn job; first = firstIn job; second = secondIn job }

@@ -1,5 +1,4 @@
--- The job file: what it holds, when it is refused, and what a writer writes.
+-- The job file: what it holds, when it is refused, and what is read of it.
 pub mod Job
 pub mod Check
 pub mod Read
-pub mod Write

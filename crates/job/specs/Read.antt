@@ -1,22 +1,31 @@
--- Reading: net i of a job.
+-- Reading: net i of a job, and the section of its nets.
 use mathlib.Core.Bool.{Bool, true, false}
 use mathlib.Core.List.{List}
-use Prim.Native.Nat.{ℕ, _+_}
-use lib.Dec.{ltb, leb, eqb}
+use Prim.Native.Nat.{ℕ, _+_, _*_}
+use lib.Dec.{ltb, leb}
 use lib.ListN.{length}
-use Rattle.job.specs.declared.Board.{Board}
+use Rattle.job.specs.declared.Checked.{Checked}
+use Rattle.job.specs.declared.Checked.the-variants.{Passed, Refused}
 use Rattle.job.specs.declared.NetEnds.{NetEnds}
 use Rattle.job.specs.declared.NetEnds.the-variants.{Ends, NoNet}
-use Rattle.job.specs.Job.{netsAt, jobLength, firstIn, secondIn}
+use Rattle.job.specs.Job.{netsAt, firstIn, secondIn}
 
 abbrev pub netIf : Bool → NetEnds → NetEnds
 netIf true ends = ends
 netIf false ends = NoNet
 
--- the two FPGAs of net i; there is none at or above n, and none where the board is not the job's own
-unfoldable pub netAt : List ℕ → Board → ℕ → NetEnds
-netAt job b i =
-    netIf (ltb i (b .n))
-    (netIf (eqb (b .start) netsAt)
-    (netIf (leb (jobLength (i + 1)) (length job))
-    (Ends (record { 0 = firstIn job i }) (record { 0 = secondIn job i }))))
+-- the two FPGAs of net i of a job with n nets; there is none at or above n, and none that the job does not hold
+unfoldable pub netAt : List ℕ → ℕ → ℕ → NetEnds
+netAt job n i =
+    netIf (ltb i n)
+    (netIf (leb (netsAt job + 4 * (i + 1)) (length job))
+    (Ends (record { 0 = firstIn job i }) (record { 0 = secondIn job i })))
+
+-- the net section by the check's answer: its first byte and its length; of a refused job the empty start
+abbrev pub sectionFrom : Checked → ℕ
+sectionFrom (Passed h) = h .start
+sectionFrom (Refused r) = 0
+
+abbrev pub sectionLong : Checked → ℕ
+sectionLong (Passed h) = 4 * h .n
+sectionLong (Refused r) = 0

@@ -1,21 +1,21 @@
-// The job file: its check, what it says, its net section, and its writer. No other crate knows a byte of it.
-pub mod check;
+// The job file: what stands where, its check, and what it says. No other crate knows a byte of it.
 pub mod read;
-pub mod write;
+pub mod well_formed;
+pub mod wires;
 
-// The bytes of the board's numbers, and of the first net.
-pub const F_AT: usize = 2;
+// The bytes of the numbers in the head, and the head's length.
+pub(crate) const F_AT: usize = 2;
 
-pub const C_AT: usize = 4;
+pub(crate) const C_AT: usize = 4;
 
-pub const M_AT: usize = 6;
+pub(crate) const M_AT: usize = 6;
 
-pub const N_AT: usize = 8;
+pub(crate) const N_AT: usize = 8;
 
-pub const NETS_AT: usize = 10;
+pub(crate) const HEAD_LONG: usize = 10;
 
-// The numbers of a job that passed the check, and the byte where its nets start; of any other job zeros.
-pub struct Board {
+// The numbers of a job's head, and the byte where its nets start.
+pub struct Head {
     pub f: usize,
     pub c: usize,
     pub m: usize,
@@ -24,9 +24,9 @@ pub struct Board {
 }
 
 // The job check's answer.
-pub struct Checked {
-    pub verdict: words::Verdict,
-    pub board: Board,
+pub enum Checked {
+    Passed(Head),
+    Refused(words::Refusal),
 }
 
 // What stands at a net's number.

@@ -1,7 +1,7 @@
 -- What the first number that passes a test is: one that is lowest, one more number to look at, and two tests in one.
 -- Assumes nothing.
 use mathlib.Core.Path.{_≡_, sym, ap, _∙_}
-use mathlib.Core.Bool.{Bool, true, false, _||_, cond, true≢false, or-true}
+use mathlib.Core.Bool.{Bool, true, false, _||_, true≢false, or-true}
 use mathlib.Core.Logic.{_↔_, dite}
 use Prim.Native.Nat.{ℕ, zero, suc, _+_, min, _≤_, _<_}
 use native.Mathlib.Decide.{ℕ-discrete, decLt}
@@ -66,15 +66,6 @@ module _ (t : ℕ → Bool) where
   pub first-where-on : (i : ℕ) → firstWhere t i ≡ i → t i ≡ false → firstWhere t (i + 1) ≡ i + 1
   first-where-on i e h =
       first-where-none (i + 1) .1 (λ k l. dite (ℕ-discrete k i) (λ q. ap t q ∙ h) (λ ne. first-where-none i .0 e k (omega arith)))
-
-  -- the same as one equation
-  pub first-where-more : (i : ℕ) → firstWhere t (i + 1) ≡ cond (ltb (firstWhere t i) i) (firstWhere t i) (cond (t i) i (i + 1))
-  first-where-more i =
-      dite (decLt (firstWhere t i) i) (λ l. rw (lt-ltb (firstWhere t i) i l) (first-where-kept i (i + 1) l (omega arith)))
-      (λ nl.
-      let e : firstWhere t i ≡ i = omega (arith, first-where-at-most i) in
-      rw (le-ltb (firstWhere t i) i (omega arith))
-      (by-test (t i) (λ h. rw h (first-where-here i (i + 1) e h (omega arith))) (λ h. rw h (first-where-on i e h))))
 
   -- a search that ends early, at i, finds the first of all or stops at i
   pub first-where-within : (i n : ℕ) → i ≤ n → firstWhere t i ≡ min i (firstWhere t n)

@@ -2,7 +2,7 @@
 -- Assumes nothing.
 use mathlib.Core.Path.{_≡_, refl, ap}
 use mathlib.Core.Logic.{_≢_, dite}
-use Prim.Native.Nat.{ℕ, zero, suc, _+_, _≤_, _<_, min, max}
+use Prim.Native.Nat.{ℕ, zero, suc, _+_, _≤_, _<_, max}
 use native.Mathlib.Decide.{ℕ-discrete, decLe}
 use native.Mathlib.Numerals.{add-one}
 use native.Mathlib.Omega.{arith}
@@ -53,11 +53,6 @@ module _ (f : ℕ → ℕ) where
   unfolding greatest
   greatest-more n = rw add-one
 
-  pub least-more : (n : ℕ) → 0 < n → least f (n + 1) ≡ min (least f n) (f n)
-  unfolding least
-  least-more zero l = absurd (omega arith)
-  least-more (suc n) l = rw add-one
-
   -- every two are within w of each other if the greatest and the least are
   pub all-near : (w n : ℕ) → greatest f n ≤ least f n + w → (x y : ℕ) → x < n → y < n → f x ≤ f y + w
   all-near w n h x y lx ly = omega (arith, greatest-ge x n lx, least-le y n ly)
@@ -77,12 +72,6 @@ module _ (f g : ℕ → ℕ) where
   unfolding greatest
   greatest-same zero h = refl
   greatest-same (suc n) h = rw (greatest-same n (λ k l. h k (omega arith)), h n (omega arith))
-
-  pub least-same : (n : ℕ) → ((k : ℕ) → k < n → f k ≡ g k) → least f n ≡ least g n
-  unfolding least
-  least-same zero h = refl
-  least-same (suc zero) h = h 0 (omega arith)
-  least-same (suc (suc n)) h = rw (least-same (suc n) (λ k l. h k (omega arith)), h (suc n) (omega arith))
 
 -- f and g differ at A and B only, with the same sum there, and g's two are at most one apart: g stays within the bounds of f
 module _ (f g : ℕ → ℕ) (A B n : ℕ) (la : A < n) (lb : B < n) (other : (x : ℕ) → x < n → x ≢ A → x ≢ B → g x ≡ f x)

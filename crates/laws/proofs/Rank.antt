@@ -3,12 +3,12 @@
 use mathlib.Core.Path.{_≡_, refl, ap, _∙_}
 use mathlib.Core.Bool.{Bool, true, false}
 use mathlib.Core.Logic.{dite}
-use Prim.Native.Nat.{ℕ, zero, suc, _+_, _≤_, _<_}
+use Prim.Native.Nat.{ℕ, zero, suc, _+_, _<_}
 use native.Mathlib.Decide.{ℕ-discrete}
 use native.Mathlib.Omega.{arith}
 use Rattle.laws.specs.Sum.{sum, when}
 use Rattle.laws.specs.Rank.{rank}
-use Rattle.laws.proofs.Sum.{sum-more, sum-at-most, when-at-most}
+use Rattle.laws.proofs.Sum.{sum-more}
 
 one-if : (g : ℕ → ℕ) (r : ℕ) (b : Bool) → sum g (r + when b 1) ≡ sum g r + when b (g r)
 one-if g r true = sum-more g r
@@ -26,10 +26,6 @@ module _ (t : ℕ → Bool) where
   pub rank-out : (i : ℕ) → t i ≡ false → rank t (i + 1) ≡ rank t i
   unfolding rank
   rank-out i e = sum-more (λ j. when (t j) 1) i ∙ rw e (omega arith)
-
-  pub rank-at-most : (n : ℕ) → rank t n ≤ n
-  unfolding rank
-  rank-at-most n = omega (arith, sum-at-most (λ j. when (t j) 1) 1 n (λ j l. when-at-most (t j) 1))
 
   -- a number that is picked stands in front of the next one picked
   pub rank-less : (i n : ℕ) → i < n → t i ≡ true → rank t i < rank t n

@@ -74,10 +74,6 @@ pub when-at-most : (t : Bool) (a : ℕ) → when t a ≤ a
 when-at-most true a = omega arith
 when-at-most false a = omega arith
 
-pub when-le : (t : Bool) (a b : ℕ) → a ≤ b → when t a ≤ when t b
-when-le true a b h = h
-when-le false a b h = omega arith
-
 -- order
 module _ (f g : ℕ → ℕ) where
   pub sum-le : (n : ℕ) → ((k : ℕ) → k < n → f k ≤ g k) → sum f n ≤ sum g n
@@ -105,9 +101,6 @@ sum-const w (suc n) = omega (arith, sum-const w n)
 module _ (f : ℕ → ℕ) where
   pub sum-at-most : (w n : ℕ) → ((k : ℕ) → k < n → f k ≤ w) → sum f n ≤ n * w
   sum-at-most w n h = omega (arith, sum-const w n, sum-le f (λ _. w) n h)
-
-  pub sum-at-least : (w n : ℕ) → ((k : ℕ) → k < n → w ≤ f k) → n * w ≤ sum f n
-  sum-at-least w n h = omega (arith, sum-const w n, sum-le (λ _. w) f n h)
 
   pub term-le-sum : (k n : ℕ) → k < n → f k ≤ sum f n
   unfolding sum

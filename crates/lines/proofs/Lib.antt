@@ -1,5 +1,3 @@
--- The listing put line by line, how long it is, and plan's answer as the listing tells it.
-
+-- The lines put piece by piece, and how long a refusal is.
 pub mod Assembling
 pub mod Short
-pub mod Answered

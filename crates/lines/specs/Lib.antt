@@ -1,2 +1,2 @@
--- The listing program's text.
-pub mod Listing
+-- The lines of a listing.
+pub mod Lines

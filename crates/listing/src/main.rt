@@ -1,8 +1,8 @@
 // Reads a job from standard input and prints its plan, or why it is refused.
 use libc::STDIN_FILENO;
 use libc::STDOUT_FILENO;
-use lines::LISTING;
-use lines::list;
+use list::LISTING;
+use list::list;
 use text::so_far;
 
 // One byte more is read than the longest job has, so that a job that is too long is seen to be.

@@ -11,7 +11,7 @@ use Rattle.laws.specs.Sum.{sum}
 use Rattle.laws.proofs.Sum.{sum-same, sum-ones, sum-more}
 use Rattle.laws.proofs.Cases.{by-one}
 use Rattle.pair.specs.Pair.{fpgaCount, hit, count, Items}
-use Rattle.pair.specs.Making.{Lab, Alt, free, done, linked, Made, WaitingAt, Lean, Gathered, Ready}
+use Rattle.pair.specs.Making.{Lab, Differing, free, done, linked, Made, WaitingAt, Lean, PairedUpTo, LeftWaiting}
 use Rattle.pair.proofs.Counting.{hit-here, hit-else}
 use Rattle.pair.proofs.Linking.{Loose, free-is, done-not, at-other, rest, alt-before, alt-pair, made-after}
 
@@ -26,7 +26,7 @@ made-start n m ev long h =
     }
 
 pub start : (fpga : ℕ → ℕ) (n : ℕ) (m p : List ℕ) → Items fpga n → length m ≡ n → ((k : ℕ) → k < n → n ≤ getD m k 0)
-    → length p ≡ fpgaCount → ((v : ℕ) → v < fpgaCount → getD p v 0 ≡ 0) → Gathered fpga n m p 0
+    → length p ≡ fpgaCount → ((v : ℕ) → v < fpgaCount → getD p v 0 ≡ 0) → PairedUpTo fpga n m p 0
 unfolding sum
 start fpga n m p items lm hm lp hp =
     record {
@@ -38,7 +38,7 @@ start fpga n m p items lm hm lp hp =
       lean = λ x lab alt v l. (λ e. refl, λ q. absurd (omega (arith, hp v l)));
     }
 
-module _ (fpga : ℕ → ℕ) (n : ℕ) (m p : List ℕ) (i v : ℕ) (items : Items fpga n) (g : Gathered fpga n m p i) (li : i < n) (kv : fpga i ≡ v) where
+module _ (fpga : ℕ → ℕ) (n : ℕ) (m p : List ℕ) (i v : ℕ) (items : Items fpga n) (g : PairedUpTo fpga n m p i) (li : i < n) (kv : fpga i ≡ v) where
   below : v < fpgaCount
   below = omega (arith, items .known i li)
 
@@ -57,7 +57,7 @@ module _ (fpga : ℕ → ℕ) (n : ℕ) (m p : List ℕ) (i v : ℕ) (items : It
         λ e. omega (arith, a, b, h .1 e, sum-more (hit fpga x w 0) i, sum-more (hit fpga x w 1) i),
       )
 
-  pub wait : getD p v 0 ≡ 0 → Gathered fpga n m (set p v (i + 1)) (i + 1)
+  pub wait : getD p v 0 ≡ 0 → PairedUpTo fpga n m (set p v (i + 1)) (i + 1)
   wait z =
       record {
         made = g .made;
@@ -125,7 +125,7 @@ module _ (fpga : ℕ → ℕ) (n : ℕ) (m p : List ℕ) (i v : ℕ) (items : It
         let s = g .seen k (omega (arith, r .0)) (rw (at-other loose k (r .0) (r .1)) at q) in
         now-w 0 (fpga k) (λ e. r .1 (omega (arith, s, ap (λ (y : ℕ). getD p y 0) e))) ∙ s
 
-    lean-after : (x : ℕ → ℕ) → Lab x n → Alt x n (linked m i j) → Lean x 0 (count fpga x v 0 (i + 1)) (count fpga x v 1 (i + 1))
+    lean-after : (x : ℕ → ℕ) → Lab x n → Differing x n (linked m i j) → Lean x 0 (count fpga x v 0 (i + 1)) (count fpga x v 1 (i + 1))
     lean-after x lab alt =
         let old = g .lean x lab (alt-before loose x alt) v below .1 (omega arith) in (
           λ e. omega (
@@ -139,7 +139,7 @@ module _ (fpga : ℕ → ℕ) (n : ℕ) (m p : List ℕ) (i v : ℕ) (items : It
           λ e. absurd (omega arith),
         )
 
-    pub join : Gathered fpga n (linked m i j) (set p v 0) (i + 1)
+    pub join : PairedUpTo fpga n (linked m i j) (set p v 0) (i + 1)
     join =
         record {
           made = made-after loose;
@@ -155,7 +155,7 @@ module _ (fpga : ℕ → ℕ) (n : ℕ) (m p : List ℕ) (i v : ℕ) (items : It
         }
 
 -- after the last item
-pub ready : (fpga : ℕ → ℕ) (n : ℕ) (m p : List ℕ) → Items fpga n → Gathered fpga n m p n → Ready n m p
+pub ready : (fpga : ℕ → ℕ) (n : ℕ) (m p : List ℕ) → Items fpga n → PairedUpTo fpga n m p n → LeftWaiting n m p
 ready fpga n m p items g =
     record {
       made = g .made;

@@ -13,7 +13,7 @@ use Rattle.laws.specs.Matching.{is}
 use Rattle.laws.proofs.Sum.{sum-two}
 use Rattle.laws.proofs.Cases.{by-two}
 use Rattle.pair.proofs.Counting.{is-one}
-use Rattle.pair.specs.Making.{Lab, Alt, free, done, linked, Made}
+use Rattle.pair.specs.Making.{Lab, Differing, free, done, linked, Made}
 
 -- a free item, and one with a mate
 pub free-is : (n : ℕ) (m : List ℕ) (k : ℕ) → n ≤ getD m k 0 → free n m k ≡ 1
@@ -59,12 +59,12 @@ module _ {n : ℕ} {m : List ℕ} {i j : ℕ} (o : Loose n m i j) where
   )
 
   -- a labelling that alternates after the step did so before it, and differs on the new pair
-  pub alt-before : (x : ℕ → ℕ) → Alt x n (linked m i j) → Alt x n m
+  pub alt-before : (x : ℕ → ℕ) → Differing x n (linked m i j) → Differing x n m
   alt-before x h =
       by-two (λ k. k < n → getD m k 0 < n → x k + x (getD m k 0) ≡ 1) i j (λ l q. omega arith) (λ l q. omega arith)
       (λ k ni nj l q. rw (at-other k ni nj) at (h k l (rw (at-other k ni nj) q)))
 
-  pub alt-pair : (x : ℕ → ℕ) → Alt x n (linked m i j) → x i + x j ≡ 1
+  pub alt-pair : (x : ℕ → ℕ) → Differing x n (linked m i j) → x i + x j ≡ 1
   alt-pair x h = rw at-i at (h i (o .i-in) (rw at-i (o .j-in)))
 
   pairs-after : (k : ℕ) → k < n → getD (linked m i j) k 0 < n
@@ -100,7 +100,7 @@ module _ {n : ℕ} {m : List ℕ} {i j : ℕ} (o : Loose n m i j) where
   unfolding done
   done-same x b k ni nj = rw (at-other k ni nj)
 
-  level-after : (x : ℕ → ℕ) → Lab x n → Alt x n (linked m i j) → sum (done n (linked m i j) x 0) n ≡ sum (done n (linked m i j) x 1) n
+  level-after : (x : ℕ → ℕ) → Lab x n → Differing x n (linked m i j) → sum (done n (linked m i j) x 0) n ≡ sum (done n (linked m i j) x 1) n
   level-after x lab h =
       omega (arith, o .made .level x lab (alt-before x h), alt-pair x h, is-one x i (lab i (o .i-in)), is-one x j (lab j (o .j-in)), two 0, two 1)
     where

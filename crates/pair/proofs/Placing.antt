@@ -10,8 +10,8 @@ use Rattle.laws.specs.Part.{part, put, Kept}
 use Rattle.laws.specs.Row.{at}
 use Rattle.laws.proofs.Part.{lent, part-long, part-at, part-put, kept-put, kept-same, kept-then, kept-below}
 use Rattle.scratch.proofs.Filling.{part-fill, kept-fill}
-use Rattle.pair.specs.Pair.{fpgaCount, Asked, Pairing}
-use Rattle.pair.specs.Making.{noMate, linked, Blank, Placed, Gathered, Finished, Ready}
+use Rattle.pair.specs.Pair.{fpgaCount, ItemsIn, Pairing}
+use Rattle.pair.specs.Making.{noMate, linked, Blank, Placed, PairedUpTo, PairsAll, LeftWaiting}
 use Rattle.pair.proofs.Gathering.{start, wait, join, j-in, ready}
 use Rattle.pair.proofs.Sweeping.{paired}
 
@@ -62,7 +62,7 @@ module _ (s₀ s : List ℕ) (fpgas mates n : ℕ) (p : List ℕ) (i : ℕ) (g :
         }
 
 -- the three calls of `pair`, one after another
-module _ (s : List ℕ) (fpgas mates n : ℕ) (a : Asked s fpgas mates n) (b : List ℕ) (e : b ≡ replicate (length (take (mates + n - mates) (drop mates s))) noMate) where
+module _ (s : List ℕ) (fpgas mates n : ℕ) (a : ItemsIn s fpgas mates n) (b : List ℕ) (e : b ≡ replicate (length (take (mates + n - mates) (drop mates s))) noMate) where
   kept-blank : Kept s (put s mates (mates + n - mates) b) mates n
   kept-blank = kept-fill s mates n noMate (a .fits) b e
 
@@ -77,16 +77,16 @@ module _ (s : List ℕ) (fpgas mates n : ℕ) (a : Asked s fpgas mates n) (b : L
       }
 
   module _ (t p : List ℕ) (g : Placed (put s mates (mates + n - mates) b) t fpgas mates n p n) where
-    g′ : Gathered (at (part s fpgas n)) n (part t mates n) p n
+    g′ : PairedUpTo (at (part s fpgas n)) n (part t mates n) p n
     g′ = rw same-fpgas at (g .held)
 
-    pub ready-lent : Ready (length (take (mates + n - mates) (drop mates t))) (take (mates + n - mates) (drop mates t)) p
+    pub ready-lent : LeftWaiting (length (take (mates + n - mates) (drop mates t))) (take (mates + n - mates) (drop mates t)) p
     ready-lent = rw (lent t mates n, g′ .made .long) (ready _ _ _ _ (a .items) g′)
 
-    pub pair-done : (ys : List ℕ) → Finished (length (take (mates + n - mates) (drop mates t))) (take (mates + n - mates) (drop mates t)) ys
+    pub pair-done : (ys : List ℕ) → PairsAll (length (take (mates + n - mates) (drop mates t))) (take (mates + n - mates) (drop mates t)) ys
         → Pairing s (put t mates (mates + n - mates) ys) fpgas mates n
     pair-done ys f =
-        let f′ : Finished n (part t mates n) ys = rw (lent t mates n, g′ .made .long) at f in
+        let f′ : PairsAll n (part t mates n) ys = rw (lent t mates n, g′ .made .long) at f in
         let h : mates + n ≤ length t = omega (arith, g .kept .long, kept-blank .long, a .fits) in
         record {
           paired = rw (part-put t mates n ys h (f′ .made .long)) (paired _ _ _ _ _ g′ f′);

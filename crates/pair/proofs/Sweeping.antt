@@ -13,7 +13,7 @@ use Rattle.laws.specs.Matching.{is, Alternates}
 use Rattle.laws.proofs.Sum.{sum-same, sum-one, sum-zero}
 use Rattle.laws.proofs.Cases.{by-same}
 use Rattle.pair.specs.Pair.{fpgaCount, count, Near, Paired}
-use Rattle.pair.specs.Making.{Lab, Alt, free, done, linked, Made, Waiting, Gathered, Ready, Finished, Lean}
+use Rattle.pair.specs.Making.{Lab, Differing, free, done, linked, Made, Waiting, PairedUpTo, LeftWaiting, PairsAll, Lean}
 use Rattle.pair.proofs.Linking.{Loose, free-is, free-not, done-is, at-other, rest, alt-before, made-after}
 
 -- item k waits at an FPGA from v on
@@ -22,16 +22,16 @@ Waits p v k = (w : ℕ) × (v ≤ w) × (w < fpgaCount) × (getD p w 0 ≡ k + 1
 
 -- the FPGAs below v are done, and c is carried (0: nothing, j + 1: item j)
 pub record Swept (n : ℕ) (p m₀ m : List ℕ) (c v : ℕ) : Type 0 where
-  pub ready : Ready n m₀ p
+  pub ready : LeftWaiting n m₀ p
   pub inside : v ≤ fpgaCount
   pub made : Made n m
   pub held : 0 < c → Waiting n m c
   pub apart : 0 < c → (w : ℕ) → v ≤ w → w < fpgaCount → getD p w 0 ≢ c
   pub waits : (w : ℕ) → v ≤ w → w < fpgaCount → 0 < getD p w 0 → Waiting n m (getD p w 0)
   pub seen : (k : ℕ) → k < n → n ≤ getD m k 0 → (k + 1 ≡ c) ⊎ Waits p v k
-  pub grows : (x : ℕ → ℕ) → Lab x n → Alt x n m → Alt x n m₀
+  pub grows : (x : ℕ → ℕ) → Lab x n → Differing x n m → Differing x n m₀
 
-pub start : (n : ℕ) (m p : List ℕ) → Ready n m p → Swept n p m m 0 0
+pub start : (n : ℕ) (m p : List ℕ) → LeftWaiting n m p → Swept n p m m 0 0
 start n m p r =
     record {
       ready = r;
@@ -149,7 +149,7 @@ module _ (n : ℕ) (p m₀ m : List ℕ) (c v : ℕ) (s : Swept n p m₀ m c v) 
             (λ k q nk. dite (decLt (getD m k 0) n) (λ y. free-not n m k y) (λ y. absurd (nk (omega (arith, only k q (omega arith)))))),
       )))
 
-  pub finish : Finished n m₀ m
+  pub finish : PairsAll n m₀ m
   finish =
       record {
         made = s .made;
@@ -157,7 +157,7 @@ module _ (n : ℕ) (p m₀ m : List ℕ) (c v : ℕ) (s : Swept n p m₀ m c v) 
         grows = s .grows;
       }
 
-pub paired : (fpga : ℕ → ℕ) (n : ℕ) (m p m′ : List ℕ) → Gathered fpga n m p n → Finished n m m′ → Paired fpga n m′
+pub paired : (fpga : ℕ → ℕ) (n : ℕ) (m p m′ : List ℕ) → PairedUpTo fpga n m p n → PairsAll n m m′ → Paired fpga n m′
 paired fpga n m p m′ g f =
     record {
       perfect = record {

@@ -34,7 +34,7 @@ pub record Items (fpga : ℕ → ℕ) (n : ℕ) : Type 0 where
   pub known : (k : ℕ) → k < n → fpga k < fpgaCount
 
 -- their FPGAs stand in s from `fpgas` on, in front of the place for the mates
-pub record Asked (s : List ℕ) (fpgas mates n : ℕ) : Type 0 where
+pub record ItemsIn (s : List ℕ) (fpgas mates n : ℕ) : Type 0 where
   pub items : Items (at (part s fpgas n)) n
   pub order : fpgas + n ≤ mates
   pub fits : mates + n ≤ length s

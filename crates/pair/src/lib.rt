@@ -2,8 +2,8 @@
 ghost use mathlib.Core.Path.{_≡_};
 ghost use Prim.Native.Nat.{_<_};
 ghost use lib.ListN.{length};
-ghost use Rattle.pair.specs.Pair.{Asked, Pairing};
-ghost use Rattle.pair.specs.Making.{linked, Blank, Placed, Ready, Finished};
+ghost use Rattle.pair.specs.Pair.{ItemsIn, Pairing};
+ghost use Rattle.pair.specs.Making.{linked, Blank, Placed, LeftWaiting, PairsAll};
 use scratch::fill;
 use words::number::wide;
 
@@ -45,8 +45,8 @@ fn gather(s: &mut [u16], fpgas: usize, mates: usize, n: usize) -> [u16; FPGAS]
 
 // Pairs the items that wait with each other: their number is even, so that none is left.
 fn sweep(mate: &mut [u16], wait: &[u16; FPGAS])
-    requires { ⌜ Ready (length (now mate)) (now mate) (now wait) ⌝ }
-    ensures { λ _. ⌜ Finished (length (now (mate .entry))) (now (mate .entry)) (now (mate .exit)) ⌝ }
+    requires { ⌜ LeftWaiting (length (now mate)) (now mate) (now wait) ⌝ }
+    ensures { λ _. ⌜ PairsAll (length (now (mate .entry))) (now (mate .entry)) (now (mate .exit)) ⌝ }
 {
     let mut carry: u16 = 0;
     let mut v = 0;
@@ -67,7 +67,7 @@ fn sweep(mate: &mut [u16], wait: &[u16; FPGAS])
 // Pairs n items so that each FPGA has at most one item whose mate stands elsewhere.
 // The items' FPGAs stand at s[fpgas..fpgas + n], and the mates are written to s[mates..mates + n].
 pub fn pair(s: &mut [u16], fpgas: usize, mates: usize, n: usize)
-    requires { ⌜ Asked (now s) fpgas mates n ⌝ }
+    requires { ⌜ ItemsIn (now s) fpgas mates n ⌝ }
     ensures { λ _. ⌜ Pairing (now (s .entry)) (now (s .exit)) fpgas mates n ⌝ }
 {
     fill(&mut s[mates..mates + n], NO_MATE);

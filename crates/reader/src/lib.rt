@@ -1,17 +1,15 @@
-// A reader that holds the caller's job bytes and the four numbers of the board. Whatever it answers is worked out on the plain slice.
+// A reader that holds the caller's job bytes and the four numbers of its head. Whatever it answers is worked out on the plain slice.
 ghost use mathlib.Core.Path.{_≡_};
-ghost use Rattle.job.specs.Check.{boardOf};
+ghost use Rattle.job.specs.Check.{checkedOf};
 ghost use Rattle.job.specs.Read.{netAt};
-ghost use Rattle.reader.specs.Held.{numbersOf, readerOf, heldIn, netOf, netIn};
-use job::Board;
-use job::NETS_AT;
+ghost use Rattle.reader.specs.Held.{numbersOf, readerOf, heldIn, netIn};
+use job::Checked;
 use job::NetEnds;
-use job::read::board_of;
 use job::read::net_at;
+use job::well_formed::check_job;
 use words::Crossbar;
 use words::Fpga;
 use words::Net;
-use words::number::wide;
 
 // f, c, m and n, each under its sort.
 pub struct Numbers {
@@ -32,29 +30,23 @@ pub struct Reader<'a> {
 
 // The numbers of a job; of a refused job four zeros.
 pub fn numbers_of(job: &[u8]) -> Numbers
-    ensures { λ r. ⌜ r ≡ numbersOf (boardOf (now (job .entry))) ⌝ }
+    ensures { λ r. ⌜ r ≡ numbersOf (checkedOf (now (job .entry))) ⌝ }
 {
-    let b = board_of(job);
-    Numbers {
-        f: Fpga(b.f as u16),
-        c: Crossbar(b.c as u16),
-        m: b.m as u16,
-        n: Net(b.n as u16),
+    let checked = check_job(job);
+    match checked {
+        Checked::Refused(_) => Numbers {
+            f: Fpga(0),
+            c: Crossbar(0),
+            m: 0,
+            n: Net(0),
+        },
+        Checked::Passed(head) => Numbers {
+            f: Fpga(head.f as u16),
+            c: Crossbar(head.c as u16),
+            m: head.m as u16,
+            n: Net(head.n as u16),
+        },
     }
-}
-
-// Net i of a job that has n nets.
-pub fn net_of(job: &[u8], n: Net, i: Net) -> NetEnds
-    ensures { λ r. ⌜ r ≡ netOf (now (job .entry)) (n .0) (i .0) ⌝ }
-{
-    let b = Board {
-        f: 0,
-        c: 0,
-        m: 0,
-        n: wide(n.0),
-        start: NETS_AT,
-    };
-    net_at(job, b, i)
 }
 
 // The check is made here, once for all that is read.
@@ -85,12 +77,12 @@ pub fn numbers_held<'a>(r: Reader<'a>) -> Numbers
 pub fn net<'a>(r: Reader<'a>, i: Net) -> NetEnds
     ensures { λ s. ⌜ s ≡ netIn (r .entry) (i .0) ⌝ }
 {
-    net_of(r.job, r.n, i)
+    net_at(r.job, r.n, i)
 }
 
 // From the plain job to its net: whoever calls this one sees no reader.
 pub fn net_of_job(job: &[u8], i: Net) -> NetEnds
-    ensures { λ r. ⌜ r ≡ netAt (now (job .entry)) (boardOf (now (job .entry))) (i .0) ⌝ }
+    ensures { λ r. ⌜ r ≡ netAt (now (job .entry)) (numbersOf (checkedOf (now (job .entry))) .n .0) (i .0) ⌝ }
 {
     net(open(job), i)
 }

@@ -11,11 +11,11 @@ use lib.Seq.{getD-set-same, getD-set-other, drop-set-lt}
 use borrow.Author.Count.{below-more}
 use Rattle.laws.proofs.Rank.{rank-none, rank-in, rank-out, rank-less}
 use Rattle.job.specs.Job.{firstIn, secondIn}
-use Rattle.job.specs.declared.Board.{Board}
+use Rattle.job.specs.declared.Head.{Head}
 use Rattle.job.specs.Check.{Joins}
 use Rattle.scratch.specs.Scratch.{scratchLong}
 use Rattle.split.specs.Split.{firstEnd, secondEnd}
-use Rattle.recolour.specs.Steps.{taken, place, Counted, nowhere, withEnds, Places, Room, Collected}
+use Rattle.recolour.specs.Steps.{taken, place, CountedOn, nowhere, withEnds, Places, RoomFor, Collected}
 
 -- the ends of one more net
 module _ (s : List ℕ) (k e v w : ℕ) (p : Places s k e) where
@@ -40,24 +40,24 @@ module _ (s : List ℕ) (k e v w : ℕ) (p : Places s k e) where
 
 -- counting the nets that are taken
 module _ (plan : List ℕ) (x y : ℕ) where
-  pub count-none : Counted plan x y 0 0
+  pub count-none : CountedOn plan x y 0 0
   count-none = record { is = sym (rank-none (taken plan x y)); at-most = omega arith }
 
-  module _ (i e : ℕ) (c : Counted plan x y i e) (r : Bool) (on : r ≡ taken plan x y i) where
-    pub count-more : r ≡ true → Counted plan x y (i + 1) (e + 1)
+  module _ (i e : ℕ) (c : CountedOn plan x y i e) (r : Bool) (on : r ≡ taken plan x y i) where
+    pub count-more : r ≡ true → CountedOn plan x y (i + 1) (e + 1)
     count-more t = record { is = ap (λ (d : ℕ). d + 1) (c .is) ∙ sym (rank-in (taken plan x y) i (sym on ∙ t)); at-most = omega (arith, c .at-most) }
 
-    pub count-skip : r ≡ false → Counted plan x y (i + 1) e
+    pub count-skip : r ≡ false → CountedOn plan x y (i + 1) e
     count-skip f = record { is = c .is ∙ sym (rank-out (taken plan x y) i (sym on ∙ f)); at-most = omega (arith, c .at-most) }
 
-  pub count-all : (i e n : ℕ) → Counted plan x y i e → i ≤ n → n ≤ i → Counted plan x y n e
+  pub count-all : (i e n : ℕ) → CountedOn plan x y i e → i ≤ n → n ≤ i → CountedOn plan x y n e
   count-all i e n c l g = let q : i ≡ n = omega arith in rw q at c
 
   -- a net that is taken has its place in front of those behind it
-  pub place-less : (i e j : ℕ) → Counted plan x y i e → j < i → taken plan x y j ≡ true → place plan x y j < e
+  pub place-less : (i e j : ℕ) → CountedOn plan x y i e → j < i → taken plan x y j ≡ true → place plan x y j < e
   place-less i e j c l t = omega (arith, c .is, rank-less (taken plan x y) j i l t)
 
-module _ (job : List ℕ) (b : Board) (plan : List ℕ) (x y : ℕ) (s₀ : List ℕ) (k : ℕ) (room : Room job b plan x y s₀ k) where
+module _ (job : List ℕ) (b : Head) (plan : List ℕ) (x y : ℕ) (s₀ : List ℕ) (k : ℕ) (room : RoomFor job b plan x y s₀ k) where
   pub collect-none : Collected job plan x y k s₀ s₀ 0 0
   collect-none =
       record {

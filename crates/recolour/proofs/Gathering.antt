@@ -8,19 +8,19 @@ use Prim.Native.Nat.{ℕ, _≤_, _<_}
 use native.Mathlib.Omega.{arith}
 use lib.ListN.{getD}
 use Rattle.laws.proofs.Cases.{by-same, by-half}
-use Rattle.job.specs.declared.Board.{Board}
+use Rattle.job.specs.declared.Head.{Head}
 use Rattle.scratch.specs.Scratch.{mostNets, scratchLong}
 use Rattle.pair.specs.Pair.{fpgaCount}
-use Rattle.split.specs.Split.{firstEnd, secondEnd, Nets}
-use Rattle.recolour.specs.Recolour.{Asked}
-use Rattle.recolour.specs.Steps.{taken, place, Counted, evened, nowhere, withEnds, Places, Room, Collected, Gathered}
+use Rattle.split.specs.Split.{firstEnd, secondEnd, NetsIn}
+use Rattle.recolour.specs.Recolour.{RecolourAsked}
+use Rattle.recolour.specs.Steps.{taken, place, CountedOn, evened, nowhere, withEnds, Places, RoomFor, Collected, CollectedAll}
 use Rattle.recolour.proofs.Collecting.{place-less, ends-here, ends-else, ends-long, ends-beyond}
 
-module _ (job : List ℕ) (b : Board) (plan : List ℕ) (x y : ℕ) (s₀ : List ℕ) (asked : Asked job b plan x y s₀) (count : ℕ) (c : Counted plan x y (b .n) count) where
+module _ (job : List ℕ) (b : Head) (plan : List ℕ) (x y : ℕ) (s₀ : List ℕ) (asked : RecolourAsked job b plan x y s₀) (count : ℕ) (c : CountedOn plan x y (b .n) count) where
   small : evened count ≤ mostNets
   small = omega (arith, c .at-most, asked .passed .ranged .n-high)
 
-  pub room-for : (k : ℕ) → k ≡ evened count → Room job b plan x y s₀ k
+  pub room-for : (k : ℕ) → k ≡ evened count → RoomFor job b plan x y s₀ k
   room-for k e =
       record {
         passed = asked .passed;
@@ -32,7 +32,7 @@ module _ (job : List ℕ) (b : Board) (plan : List ℕ) (x y : ℕ) (s₀ : List
 
   -- all but one at the most are nets of the board
   nets-of : (s : List ℕ) → Collected job plan x y (evened count) s₀ s (b .n) count
-      → (count < evened count → (firstEnd s count ≡ nowhere) × (secondEnd s (evened count) count ≡ nowhere)) → Nets s (evened count)
+      → (count < evened count → (firstEnd s count ≡ nowhere) × (secondEnd s (evened count) count ≡ nowhere)) → NetsIn s (evened count)
   nets-of s g d =
       record {
         long = omega (arith, g .long, asked .scratch);
@@ -49,7 +49,7 @@ module _ (job : List ℕ) (b : Board) (plan : List ℕ) (x y : ℕ) (s₀ : List
         subst (λ (j : ℕ). Collected job plan x y j s₀ s (b .n) count) ek
         (subst (λ (d : ℕ). Collected job plan x y k s₀ s (b .n) d) (sym (c .is)) g)
 
-    pub gathered-even : count ≡ k → Gathered job b plan x y s₀ s count
+    pub gathered-even : count ≡ k → CollectedAll job b plan x y s₀ s count
     gathered-even q =
         let none : count < evened count → ⊥ = λ l. omega arith in
         record { collected = collected; nets = nets-of s collected (λ l. absurd (none l)); dummy = λ l. absurd (none l) }
@@ -57,7 +57,7 @@ module _ (job : List ℕ) (b : Board) (plan : List ℕ) (x y : ℕ) (s₀ : List
     pub dummy-fits : count ≢ k → Places s k count
     dummy-fits ne = record { one-of = omega arith; all = omega (arith, g .long, asked .scratch, small) }
 
-    pub gathered-odd : count ≢ k → (s′ : List ℕ) → s′ ≡ withEnds s k count nowhere nowhere → Gathered job b plan x y s₀ s′ count
+    pub gathered-odd : count ≢ k → (s′ : List ℕ) → s′ ≡ withEnds s k count nowhere nowhere → CollectedAll job b plan x y s₀ s′ count
     gathered-odd ne s′ eq = rw (eq, ek) go
       where
         new : List ℕ
@@ -86,5 +86,5 @@ module _ (job : List ℕ) (b : Board) (plan : List ℕ) (x y : ℕ) (s₀ : List
               beyond = ends-beyond s (evened count) count nowhere nowhere places scratchLong (omega (arith, small)) ∙ g .beyond;
             }
 
-        go : Gathered job b plan x y s₀ new count
+        go : CollectedAll job b plan x y s₀ new count
         go = record { collected = kept; nets = nets-of new kept (λ l. dummy); dummy = λ l. dummy }

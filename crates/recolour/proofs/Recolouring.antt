@@ -11,22 +11,23 @@ use Rattle.laws.specs.Rank.{rank}
 use Rattle.laws.specs.Row.{at}
 use Rattle.laws.proofs.Rank.{rank-less}
 use Rattle.laws.proofs.Cases.{by-test, by-same}
-use Rattle.job.specs.declared.Board.{Board}
-use Rattle.board.specs.Job.{Job, jobIn}
+use Rattle.job.specs.declared.Head.{Head}
+use Rattle.board.specs.Netlist.{Netlist}
+use Rattle.job.specs.Job.{jobIn}
 use Rattle.board.specs.Board.{load, total}
 use Rattle.board.specs.Rule.{OnTwo, Moved, Clauses}
 use Rattle.board.proofs.Change.{loads-together}
 use Rattle.board.proofs.Rule.{on-two-says}
-use Rattle.board.proofs.Sound.{sound}
-use Rattle.split.specs.Split.{firstEnd, secondEnd, labelOf, loadOn, Nets, Halved}
-use Rattle.recolour.specs.Recolour.{Asked, RecolouredIn}
-use Rattle.recolour.specs.Steps.{taken, place, evened, nowhere, Gathered, labelForY, Written}
+use Rattle.job.proofs.Sound.{sound}
+use Rattle.split.specs.Split.{firstEnd, secondEnd, labelOf, loadOn, NetsIn, Halved}
+use Rattle.recolour.specs.Recolour.{RecolourAsked, RecolouredIn}
+use Rattle.recolour.specs.Steps.{taken, place, evened, nowhere, CollectedAll, labelForY, WrittenBack}
 use Rattle.recolour.proofs.Marking.{mark-odd, mark-even, on-either, on-x-test, on-y-test}
 use Rattle.recolour.proofs.Sharing.{total-by-label, load-by-label, load-no-dummy, one-more, shared-by, halves-of}
 
-module _ (job : List ℕ) (b : Board) (plan₀ : List ℕ) (x y : ℕ) (s₀ : List ℕ) (asked : Asked job b plan₀ x y s₀)
-    (s₁ : List ℕ) (count : ℕ) (g : Gathered job b plan₀ x y s₀ s₁ count) where
-  pub nets-for : (k : ℕ) → k ≡ evened count → Nets s₁ k
+module _ (job : List ℕ) (b : Head) (plan₀ : List ℕ) (x y : ℕ) (s₀ : List ℕ) (asked : RecolourAsked job b plan₀ x y s₀)
+    (s₁ : List ℕ) (count : ℕ) (g : CollectedAll job b plan₀ x y s₀ s₁ count) where
+  pub nets-for : (k : ℕ) → k ≡ evened count → NetsIn s₁ k
   nets-for k e = rw e (g .nets)
 
   module _ (s₂ : List ℕ) (h : Halved s₁ s₂ (evened count)) where
@@ -47,8 +48,8 @@ module _ (job : List ℕ) (b : Board) (plan₀ : List ℕ) (x y : ℕ) (s₀ : L
         by-same count (evened count) (λ e. omega (arith, mark-even s₂ count (omega arith)))
         (λ ne. omega (arith, mark-of-dummy (omega arith), binary count (omega arith)))
 
-    module _ (plan : List ℕ) (w : Written plan₀ plan (b .n) x y s₂ (labelForY s₂ count) (b .n) (place plan₀ x y (b .n))) where
-      abbrev J : Job
+    module _ (plan : List ℕ) (w : WrittenBack plan₀ plan (b .n) x y s₂ (labelForY s₂ count) (b .n) (place plan₀ x y (b .n))) where
+      abbrev J : Netlist
       J = jobIn job
 
       abbrev t : ℕ → Bool
@@ -122,5 +123,5 @@ module _ (job : List ℕ) (b : Board) (plan₀ : List ℕ) (x y : ℕ) (s₀ : L
           }
 
   pub recoloured : (k : ℕ) → k ≡ evened count → (s₂ : List ℕ) → Halved s₁ s₂ k
-      → (plan : List ℕ) → Written plan₀ plan (b .n) x y s₂ (labelForY s₂ count) (b .n) (place plan₀ x y (b .n)) → RecolouredIn job b plan₀ plan x y s₀ s₂
+      → (plan : List ℕ) → WrittenBack plan₀ plan (b .n) x y s₂ (labelForY s₂ count) (b .n) (place plan₀ x y (b .n)) → RecolouredIn job b plan₀ plan x y s₀ s₂
   recoloured k ek s₂ h plan w = recoloured-in s₂ (rw ek at h) plan w

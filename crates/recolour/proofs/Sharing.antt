@@ -13,7 +13,7 @@ use Rattle.laws.proofs.Sum.{sum-same, sum-add, sum-more, when-else, when-none}
 use Rattle.laws.proofs.Rank.{sum-rank}
 use Rattle.laws.proofs.Matching.{is-yes, is-no}
 use Rattle.laws.proofs.Cases.{by-test, by-same}
-use Rattle.board.specs.Job.{Job}
+use Rattle.board.specs.Netlist.{Netlist}
 use Rattle.board.specs.Board.{endsAt, load, total}
 use Rattle.board.specs.Rule.{Halves}
 use Rattle.board.proofs.Halves.{halves-if}
@@ -43,7 +43,7 @@ module _ (t : ℕ → Bool) (b l : ℕ → ℕ) (n z c : ℕ)
       by-test (t i) (λ e. rw (e, on i q e, same i q e)) (λ e. rw e (when-else (b i) (w i) z (off i q e))))
       ∙ sum-rank t (λ e. when (eqb (l e) c) (h e)) n
 
-  module _ (J : Job) (same-n : J .n ≡ n) where
+  module _ (J : Netlist) (same-n : J .n ≡ n) where
     pub total-by-label : total J b z ≡ sum (is l c) (rank t n)
     unfolding total is
     total-by-label = rw same-n (amount (λ _. 1) (λ _. 1) (λ i q e. refl))

@@ -11,11 +11,11 @@ use borrow.Author.Count.{below-more}
 use Rattle.laws.specs.Row.{at}
 use Rattle.board.specs.Rule.{onTwoTest}
 use Rattle.split.specs.Split.{labelOf}
-use Rattle.recolour.specs.Steps.{taken, place, labelForY, crossbarBy, Labelled, Written}
+use Rattle.recolour.specs.Steps.{taken, place, labelForY, crossbarBy, Labelled, WrittenBack}
 use Rattle.recolour.proofs.Collecting.{count-none, count-more, count-skip}
 
 module _ (plan₀ : List ℕ) (n x y : ℕ) (s : List ℕ) (mark items : ℕ) (asked : Labelled plan₀ n s items) where
-  pub write-none : Written plan₀ plan₀ n x y s mark 0 0
+  pub write-none : WrittenBack plan₀ plan₀ n x y s mark 0 0
   write-none =
       record {
         counted = count-none plan₀ x y;
@@ -26,12 +26,12 @@ module _ (plan₀ : List ℕ) (n x y : ℕ) (s : List ℕ) (mark items : ℕ) (a
         beyond = refl;
       }
 
-  module _ (plan : List ℕ) (i e : ℕ) (c : Written plan₀ plan n x y s mark i e) (l : i < n) (r : Bool) (now : r ≡ onTwoTest x y (at plan i)) where
+  module _ (plan : List ℕ) (i e : ℕ) (c : WrittenBack plan₀ plan n x y s mark i e) (l : i < n) (r : Bool) (now : r ≡ onTwoTest x y (at plan i)) where
     -- the walk has not changed net i yet
     on : r ≡ taken plan₀ x y i
     on = now ∙ ap (onTwoTest x y) (c .ahead i (omega arith))
 
-    pub write-skip : r ≡ false → Written plan₀ plan n x y s mark (i + 1) e
+    pub write-skip : r ≡ false → WrittenBack plan₀ plan n x y s mark (i + 1) e
     write-skip f =
         record {
           counted = count-skip plan₀ x y i e (c .counted) r on f;
@@ -42,7 +42,7 @@ module _ (plan₀ : List ℕ) (n x y : ℕ) (s : List ℕ) (mark items : ℕ) (a
           beyond = c .beyond;
         }
 
-    pub write-more : r ≡ true → (z : ℕ) → z ≡ crossbarBy x y mark (labelOf s e) → Written plan₀ (set plan i z) n x y s mark (i + 1) (e + 1)
+    pub write-more : r ≡ true → (z : ℕ) → z ≡ crossbarBy x y mark (labelOf s e) → WrittenBack plan₀ (set plan i z) n x y s mark (i + 1) (e + 1)
     write-more t z ez =
         record {
           counted = count-more plan₀ x y i e (c .counted) r on t;
@@ -61,8 +61,8 @@ module _ (plan₀ : List ℕ) (n x y : ℕ) (s : List ℕ) (mark items : ℕ) (a
         other : (j : ℕ) → (j ≡ i → ⊥) → at new j ≡ at plan j
         other j ne = getD-set-other plan i j z 0 ne
 
-  pub write-all : (plan : List ℕ) (i e : ℕ) → Written plan₀ plan n x y s mark i e → i ≤ n → n ≤ i → (count : ℕ) → mark ≡ labelForY s count
-      → Written plan₀ plan n x y s (labelForY s count) n (place plan₀ x y n)
+  pub write-all : (plan : List ℕ) (i e : ℕ) → WrittenBack plan₀ plan n x y s mark i e → i ≤ n → n ≤ i → (count : ℕ) → mark ≡ labelForY s count
+      → WrittenBack plan₀ plan n x y s (labelForY s count) n (place plan₀ x y n)
   write-all plan i e c l g count em =
       let q : i ≡ n = omega arith in
-      subst (λ (d : ℕ). Written plan₀ plan n x y s (labelForY s count) n d) (rw q at (c .counted .is)) (rw (q, em) at c)
+      subst (λ (d : ℕ). WrittenBack plan₀ plan n x y s (labelForY s count) n d) (rw q at (c .counted .is)) (rw (q, em) at c)

@@ -8,11 +8,11 @@ use lib.ListN.{length, drop, set}
 use Rattle.laws.specs.Rank.{rank}
 use Rattle.laws.specs.Row.{at}
 use Rattle.job.specs.Job.{firstIn, secondIn}
-use Rattle.job.specs.Check.{Passed}
-use Rattle.job.specs.declared.Board.{Board}
+use Rattle.job.specs.Check.{WellFormed}
+use Rattle.job.specs.declared.Head.{Head}
 use Rattle.board.specs.Rule.{onTwoTest}
 use Rattle.scratch.specs.Scratch.{mostNets, scratchLong}
-use Rattle.split.specs.Split.{firstEnd, secondEnd, labelOf, Nets}
+use Rattle.split.specs.Split.{firstEnd, secondEnd, labelOf, NetsIn}
 
 -- net i is on x or y
 abbrev pub taken : List ℕ → ℕ → ℕ → ℕ → Bool
@@ -23,7 +23,7 @@ abbrev pub place : List ℕ → ℕ → ℕ → ℕ → ℕ
 place plan x y i = rank (taken plan x y) i
 
 -- e of the nets below i are on x or y
-pub record Counted (plan : List ℕ) (x y i e : ℕ) : Type 0 where
+pub record CountedOn (plan : List ℕ) (x y i e : ℕ) : Type 0 where
   pub is : e ≡ place plan x y i
   pub at-most : e ≤ i
 
@@ -45,16 +45,16 @@ pub record Places (s : List ℕ) (k e : ℕ) : Type 0 where
   pub all : k + k ≤ length s
 
 -- room for the ends of all nets that are taken
-pub record Room (job : List ℕ) (b : Board) (plan : List ℕ) (x y : ℕ) (s : List ℕ) (k : ℕ) : Type 0 where
-  pub passed : Passed job b
-  pub every-net : b .n ≤ length plan
-  pub enough : place plan x y (b .n) ≤ k
+pub record RoomFor (job : List ℕ) (h : Head) (plan : List ℕ) (x y : ℕ) (s : List ℕ) (k : ℕ) : Type 0 where
+  pub passed : WellFormed job h
+  pub every-net : h .n ≤ length plan
+  pub enough : place plan x y (h .n) ≤ k
   pub small : k ≤ mostNets
   pub scratch : scratchLong ≤ length s
 
 -- the nets below i that are taken, e of them, have their ends in s; s₀ has become s
 pub record Collected (job plan : List ℕ) (x y k : ℕ) (s₀ s : List ℕ) (i e : ℕ) : Type 0 where
-  pub counted : Counted plan x y i e
+  pub counted : CountedOn plan x y i e
   pub first : (j : ℕ) → j < i → taken plan x y j ≡ true → firstEnd s (place plan x y j) ≡ firstIn job j
   pub second : (j : ℕ) → j < i → taken plan x y j ≡ true → secondEnd s k (place plan x y j) ≡ secondIn job j
   pub known : (d : ℕ) → d < e → (firstEnd s d < nowhere) × (secondEnd s k d < nowhere)
@@ -62,9 +62,9 @@ pub record Collected (job plan : List ℕ) (x y k : ℕ) (s₀ s : List ℕ) (i 
   pub beyond : drop scratchLong s ≡ drop scratchLong s₀
 
 -- all nets that are taken are collected, and the dummy stands behind them where their number is odd
-pub record Gathered (job : List ℕ) (b : Board) (plan : List ℕ) (x y : ℕ) (s₀ s : List ℕ) (count : ℕ) : Type 0 where
-  pub collected : Collected job plan x y (evened count) s₀ s (b .n) count
-  pub nets : Nets s (evened count)
+pub record CollectedAll (job : List ℕ) (h : Head) (plan : List ℕ) (x y : ℕ) (s₀ s : List ℕ) (count : ℕ) : Type 0 where
+  pub collected : Collected job plan x y (evened count) s₀ s (h .n) count
+  pub nets : NetsIn s (evened count)
   pub dummy : count < evened count → (firstEnd s count ≡ nowhere) × (secondEnd s (evened count) count ≡ nowhere)
 
 -- the label of the nets that are put on y: that of the dummy if there is one, so that one net more is left for x
@@ -82,8 +82,8 @@ pub record Labelled (plan : List ℕ) (n : ℕ) (s : List ℕ) (count : ℕ) : T
   pub scratch : scratchLong ≤ length s
 
 -- the nets below i that are taken, e of them, are put on x or y by their labels; plan₀ has become plan
-pub record Written (plan₀ plan : List ℕ) (n x y : ℕ) (s : List ℕ) (mark i e : ℕ) : Type 0 where
-  pub counted : Counted plan₀ x y i e
+pub record WrittenBack (plan₀ plan : List ℕ) (n x y : ℕ) (s : List ℕ) (mark i e : ℕ) : Type 0 where
+  pub counted : CountedOn plan₀ x y i e
   pub put : (j : ℕ) → j < i → taken plan₀ x y j ≡ true → at plan j ≡ crossbarBy x y mark (labelOf s (place plan₀ x y j))
   pub stay : (j : ℕ) → j < i → taken plan₀ x y j ≡ false → at plan j ≡ at plan₀ j
   pub ahead : (j : ℕ) → i ≤ j → at plan j ≡ at plan₀ j

@@ -12,9 +12,9 @@ ghost use Prim.Native.Nat.{_≤_};
 ghost use lib.ListN.{length};
 ghost use Rattle.board.specs.Rule.{onTwoTest};
 ghost use Rattle.scratch.specs.Scratch.{mostNets, scratchLong};
-ghost use Rattle.recolour.specs.Recolour.{Asked, RecolouredIn};
-ghost use Rattle.recolour.specs.Steps.{place, Counted, evened, withEnds, Places, Room, Collected, Gathered, labelForY, crossbarBy, Labelled, Written};
-use job::Board;
+ghost use Rattle.recolour.specs.Recolour.{RecolourAsked, RecolouredIn};
+ghost use Rattle.recolour.specs.Steps.{place, CountedOn, evened, withEnds, Places, RoomFor, Collected, CollectedAll, labelForY, crossbarBy, Labelled, WrittenBack};
+use job::Head;
 use job::read::first_end;
 use job::read::second_end;
 use scratch::LABELS;
@@ -40,7 +40,7 @@ fn evened(count: usize) -> usize
 // How many of the n nets are on x or y.
 fn count_on(plan: &[u16], n: usize, x: u16, y: u16) -> usize
     requires { ⌜ n ≤ length (now plan) ⌝ }
-    ensures { λ r. ⌜ Counted (now (plan .entry)) x y n r ⌝ }
+    ensures { λ r. ⌜ CountedOn (now (plan .entry)) x y n r ⌝ }
 {
     let mut count = 0;
     let mut i = 0;
@@ -64,12 +64,12 @@ fn put_ends(s: &mut [u16], k: usize, e: usize, v: u16, w: u16)
 }
 
 // The ends of all nets on x or y, in net order, among those of k nets.
-fn collect(job: &[u8], b: Board, plan: &[u16], x: u16, y: u16, s: &mut [u16], k: usize)
-    requires { ⌜ Room (now job) b (now plan) x y (now s) k ⌝ }
-    ensures { λ _. ⌜ Collected (now (job .entry)) (now (plan .entry)) x y k (now (s .entry)) (now (s .exit)) (b .n) (place (now (plan .entry)) x y (b .n)) ⌝ }
+fn collect(job: &[u8], head: Head, plan: &[u16], x: u16, y: u16, s: &mut [u16], k: usize)
+    requires { ⌜ RoomFor (now job) head (now plan) x y (now s) k ⌝ }
+    ensures { λ _. ⌜ Collected (now (job .entry)) (now (plan .entry)) x y k (now (s .entry)) (now (s .exit)) (head .n) (place (now (plan .entry)) x y (head .n)) ⌝ }
 {
-    let n = b.n;
-    let start = b.start;
+    let n = head.n;
+    let start = head.start;
     let mut e = 0;
     let mut i = 0;
     while i < n {
@@ -85,13 +85,13 @@ fn collect(job: &[u8], b: Board, plan: &[u16], x: u16, y: u16, s: &mut [u16], k:
 }
 
 // Collects the nets on x or y for `split`, with the dummy where it is needed, and says how many they are without it.
-fn gather(job: &[u8], b: Board, plan: &[u16], x: u16, y: u16, s: &mut [u16]) -> usize
-    requires { ⌜ Asked (now job) b (now plan) x y (now s) ⌝ }
-    ensures { λ r. ⌜ Gathered (now (job .entry)) b (now (plan .entry)) x y (now (s .entry)) (now (s .exit)) r ⌝ }
+fn gather(job: &[u8], head: Head, plan: &[u16], x: u16, y: u16, s: &mut [u16]) -> usize
+    requires { ⌜ RecolourAsked (now job) head (now plan) x y (now s) ⌝ }
+    ensures { λ r. ⌜ CollectedAll (now (job .entry)) head (now (plan .entry)) x y (now (s .entry)) (now (s .exit)) r ⌝ }
 {
-    let count = count_on(plan, b.n, x, y);
+    let count = count_on(plan, head.n, x, y);
     let k = evened(count);
-    collect(job, b, plan, x, y, s, k);
+    collect(job, head, plan, x, y, s, k);
     if count == k {
         return count;
     }
@@ -122,7 +122,7 @@ fn crossbar_by(x: u16, y: u16, mark: u16, label: u16) -> u16
 // Puts each net that is on x or y on the crossbar of its label: the e-th of them in net order has the e-th label of `count`.
 fn write_back(plan: &mut [u16], n: usize, x: u16, y: u16, s: &[u16], count: usize)
     requires { ⌜ Labelled (now plan) n (now s) count ⌝ }
-    ensures { λ _. ⌜ Written (now (plan .entry)) (now (plan .exit)) n x y (now (s .entry)) (labelForY (now (s .entry)) count) n (place (now (plan .entry)) x y n) ⌝ }
+    ensures { λ _. ⌜ WrittenBack (now (plan .entry)) (now (plan .exit)) n x y (now (s .entry)) (labelForY (now (s .entry)) count) n (place (now (plan .entry)) x y n) ⌝ }
 {
     let mark = label_for_y(s, count);
     let mut e = 0;
@@ -138,11 +138,11 @@ fn write_back(plan: &mut [u16], n: usize, x: u16, y: u16, s: &[u16], count: usiz
 }
 
 // Recolours the nets on x and y, which document 01 calls A and B, in the assignment of the first n numbers of `plan`.
-pub fn recolour(job: &[u8], b: Board, plan: &mut [u16], x: u16, y: u16, s: &mut [u16])
-    requires { ⌜ Asked (now job) b (now plan) x y (now s) ⌝ }
-    ensures { λ _. ⌜ RecolouredIn (now (job .entry)) b (now (plan .entry)) (now (plan .exit)) x y (now (s .entry)) (now (s .exit)) ⌝ }
+pub fn recolour(job: &[u8], head: Head, plan: &mut [u16], x: u16, y: u16, s: &mut [u16])
+    requires { ⌜ RecolourAsked (now job) head (now plan) x y (now s) ⌝ }
+    ensures { λ _. ⌜ RecolouredIn (now (job .entry)) head (now (plan .entry)) (now (plan .exit)) x y (now (s .entry)) (now (s .exit)) ⌝ }
 {
-    let count = gather(job, b, plan, x, y, s);
+    let count = gather(job, head, plan, x, y, s);
     split(s, evened(count));
-    write_back(plan, b.n, x, y, s, count);
+    write_back(plan, head.n, x, y, s, count);
 }

@@ -11,20 +11,21 @@ use Rattle.words.specs.declared.Fpga.{Fpga}
 use Rattle.words.specs.declared.Crossbar.{Crossbar}
 use Rattle.words.specs.declared.Verdict.{Verdict}
 use Rattle.words.specs.declared.Verdict.the-variants as verdict
+use Rattle.job.specs.declared.Head.{Head}
 use Rattle.job.specs.declared.Checked.{Checked}
-use Rattle.job.specs.Job.{nIn}
-use Rattle.job.specs.Check.{boardOf}
-use Rattle.board.specs.Job.{jobIn}
+use Rattle.job.specs.declared.Checked.the-variants as checked
+use Rattle.job.specs.Job.{nIn, headIn, jobIn}
+use Rattle.job.proofs.Passing.{by-refused, by-passed}
 use Rattle.scratch.specs.Scratch.{scratchLong, cleared}
 use Rattle.search.specs.declared.Found.{Found}
 use Rattle.search.specs.declared.Found.the-variants as found
 use Rattle.search.specs.Search.{searchOf}
 use Rattle.round.specs.declared.Round.the-variants.{Settled, Moved, Refused}
-use Rattle.round.specs.Start.{roundVerdict, roundChecked, Ready}
+use Rattle.refusals.specs.Start.{roundVerdict, roundChecked, Ready}
 use Rattle.round.specs.Round.{RoundStep, Improves}
 use Rattle.round.specs.OneRound.{roundAnswer, OneRound, Stepped}
 use Rattle.round.proofs.Condition3.{condition3}
-use Rattle.round.proofs.Starting.{ready}
+use Rattle.refusals.proofs.Starting.{ready, start-ready}
 use Rattle.round.proofs.Stepping.{step-settled, step-moved}
 
 -- a scratch that is cleared in the end is so from the start
@@ -33,25 +34,22 @@ unfolding cleared
 cleared-since s₀ s s′ e d = rw d at e
 
 module _ (job plan s : List ℕ) (start : Checked) (e : start ≡ roundChecked job plan (length s)) where
-  verdict-of : start .verdict ≡ roundVerdict job plan (length s)
-  verdict-of = ap (λ (k : Checked). k .verdict) e
-
-  pub one-refused : (r : Refusal) → start .verdict ≡ verdict.Refused r → OneRound job plan plan s s (Refused r)
-  one-refused r h =
-      let v = sym verdict-of ∙ h in
+  pub one-refused : (r : Refusal) → start ≡ checked.Refused r → OneRound job plan plan s s (Refused r)
+  one-refused r q =
+      let v = by-refused (headIn job) (roundVerdict job plan (length s)) r (sym e ∙ q) in
       record { answer = rw v; memory = record { plan-same = refl; scratch-same = refl } }
 
-  module _ (h : start .verdict ≡ verdict.Done) where
+  module _ (h : Head) (q : start ≡ checked.Passed h) where
     done : roundVerdict job plan (length s) ≡ verdict.Done
-    done = sym verdict-of ∙ h
+    done = by-passed (headIn job) (roundVerdict job plan (length s)) h (sym e ∙ q) .0
 
-    pub start-ready : Ready job (start .board) plan s
-    start-ready = ready job plan s done (start .board) (ap (λ (k : Checked). k .board) e)
+    begins : Ready job h plan s
+    begins = start-ready job plan s start h e q
 
-    module _ (r : Found) (plan′ s₁ s′ : List ℕ) (m : Stepped job (start .board) plan plan′ s s₁ r) (z : s′ ≡ cleared scratchLong s₁) where
+    module _ (r : Found) (plan′ s₁ s′ : List ℕ) (m : Stepped job h plan plan′ s s₁ r) (z : s′ ≡ cleared scratchLong s₁) where
       pub one-settled : r ≡ found.Settled → OneRound job plan plan′ s s′ Settled
       one-settled q =
-          let u = step-settled job (start .board) plan s start-ready r plan′ s₁ m q in
+          let u = step-settled job h plan s begins r plan′ s₁ m q in
           let f = sym (m .named) ∙ q in
           record {
             answer = rw (done, f);
@@ -67,7 +65,7 @@ module _ (job plan s : List ℕ) (start : Checked) (e : start ≡ roundChecked j
 
       pub one-moved : (v : Fpga) (A B : Crossbar) → r ≡ found.Over v A B → OneRound job plan plan′ s s′ (Moved v A B)
       one-moved v A B q =
-          let u = step-moved job (start .board) plan s start-ready r plan′ s₁ m v A B q in
+          let u = step-moved job h plan s begins r plan′ s₁ m v A B q in
           let f = sym (m .named) ∙ q in
           record {
             answer = rw (done, f);
@@ -75,7 +73,7 @@ module _ (job plan s : List ℕ) (start : Checked) (e : start ≡ roundChecked j
               u .rule,
               record {
                 long = u .plan-long;
-                beyond = rw (start-ready .fitting .passed .n) at (u .plan-beyond);
+                beyond = rw (begins .fitting .passed .n) at (u .plan-beyond);
                 scratch-zero = cleared-since s s₁ s′ z (u .scratch-beyond);
               },
             );
@@ -100,5 +98,5 @@ module _ (job plan plan′ s s′ : List ℕ) (v : Fpga) (A B : Crossbar) (m : O
   pub moved-improves : Improves (jobIn job) (at plan) (at plan′) (A .0) (B .0)
   unfolding moved-round
   moved-improves =
-      let r = ready job plan s (says .0) (boardOf job) refl in
+      let r = ready job plan s (says .0) in
       condition3 (jobIn job) (at plan) (at plan′) moved-round (r .fitting .within) (r .in-range)

@@ -1,25 +1,22 @@
 -- Chains of rounds: each round lowers the excess, so a chain is no longer than the starting excess, and one as long ends legal.
 -- Assumes nothing.
 use mathlib.Core.Path.{_≡_, refl, sym, _∙_}
-use mathlib.Core.Logic.{dite}
-use Prim.Native.Nat.{ℕ, _+_, _*_, _≤_, _<_}
-use native.Mathlib.Decide.{decLt}
+use Prim.Native.Nat.{ℕ, _+_, _*_, _≤_}
 use native.Mathlib.Numerals.{add-one}
 use native.Mathlib.Omega.{arith}
-use Rattle.board.specs.Job.{Job}
-use Rattle.board.specs.Board.{totalExcess, InRange, Legal, Balanced, Alike}
+use Rattle.board.specs.Netlist.{Netlist}
+use Rattle.board.specs.Board.{totalExcess, InRange, Legal, Balanced, Alike, WithinLimits}
 use Rattle.board.proofs.Excess.{totalExcess-at-most}
 use Rattle.board.proofs.Alike.{rule-alike}
 use Rattle.search.proofs.Alike.{search-alike}
-use Rattle.round.specs.Degree.{WithinLimits}
 use Rattle.round.specs.Round.{RoundStep, Chain, ImprovesBy}
 use Rattle.round.proofs.Condition3.{condition3}
 
 -- one round more, as the code counts
-pub chain-more : (J : Job) (a : ℕ → ℕ) {k : ℕ} {b d : ℕ → ℕ} → Chain J a k b → RoundStep J b d → Chain J a (k + 1) d
+pub chain-more : (J : Netlist) (a : ℕ → ℕ) {k : ℕ} {b d : ℕ → ℕ} → Chain J a k b → RoundStep J b d → Chain J a (k + 1) d
 chain-more J a {k} {b} {d} c s = rw add-one (Chain.more c s)
 
-module _ (J : Job) (a : ℕ → ℕ) (w : WithinLimits J) (h : InRange J a) where
+module _ (J : Netlist) (a : ℕ → ℕ) (w : WithinLimits J) (h : InRange J a) where
   -- k rounds: no FPGA's excess rises, the total falls by k or more, the spread does not widen, nothing leaves the board
   pub chain-improves : {k : ℕ} {b : ℕ → ℕ} → Chain J a k b → ImprovesBy J a b k
   chain-improves Chain.none = record { excess-no-more = λ v l. omega arith; total-less = omega arith; spread-no-more = omega arith; in-range = h }
@@ -50,12 +47,8 @@ module _ (J : Job) (a : ℕ → ℕ) (w : WithinLimits J) (h : InRange J a) wher
     pub finish-ends : k ≡ totalExcess J a → Legal J b
     finish-ends e = omega (arith, chain-improves c .total-less)
 
-    -- so while it is not legal fewer rounds were made
-    pub chain-goes-on : (Legal J b → ⊥) → k < totalExcess J a
-    chain-goes-on n = dite (decLt k (totalExcess J a)) (λ l. l) (λ nl. absurd (n (omega (arith, chain-improves c .total-less))))
-
 -- from starts that agree on every net the same chains lead to results that agree on every net
-module _ (J : Job) where
+module _ (J : Netlist) where
   pub round-alike : (a a′ b b′ : ℕ → ℕ) → Alike J a a′ → Alike J b b′ → RoundStep J a b → RoundStep J a′ b′
   round-alike a a′ b b′ e d s =
       record { v = s .v; A = s .A; B = s .B; named = sym (search-alike J a a′ e) ∙ s .named; rule = rule-alike J (s .A) (s .B) a a′ b b′ e d (s .rule) }

@@ -1,16 +1,15 @@
 -- Condition 3: what a round does.
 -- Assumes nothing.
 use Prim.Native.Nat.{ℕ}
-use Rattle.board.specs.Job.{Job}
-use Rattle.board.specs.Board.{InRange, Legal}
+use Rattle.board.specs.Netlist.{Netlist}
+use Rattle.board.specs.Board.{InRange, Legal, WithinLimits}
 use Rattle.board.proofs.Change.{excess-no-more}
 use Rattle.board.proofs.Rule.{rule-in-range, rule-excess-less, rule-spread-no-more}
 use Rattle.search.specs.Search.{Named}
 use Rattle.search.proofs.Answers.{over-lowest, over-not-legal, named-if}
-use Rattle.round.specs.Degree.{WithinLimits}
 use Rattle.round.specs.Round.{RoundStep, Improves}
 
-module _ (J : Job) (a b : ℕ → ℕ) (s : RoundStep J a b) where
+module _ (J : Netlist) (a b : ℕ → ℕ) (s : RoundStep J a b) where
   -- no round is made on a legal assignment
   pub round-not-legal : Legal J a → ⊥
   round-not-legal = over-not-legal J a (s .v) (s .A) (s .B) (s .named)

@@ -1,6 +1,4 @@
 -- The theorems about rounds.
-pub mod Starting
-pub mod Condition2
 pub mod Condition3
 pub mod Stepping
 pub mod Calling

@@ -7,22 +7,22 @@ use native.Mathlib.Omega.{arith}
 use Rattle.laws.specs.Row.{at}
 use Rattle.words.specs.declared.Fpga.{Fpga}
 use Rattle.words.specs.declared.Crossbar.{Crossbar}
-use Rattle.job.specs.declared.Board.{Board}
-use Rattle.board.specs.Job.{jobIn}
+use Rattle.job.specs.declared.Head.{Head}
+use Rattle.job.specs.Job.{jobIn}
 use Rattle.board.specs.Board.{totalExcess, Legal}
 use Rattle.search.specs.declared.Found.{Found}
 use Rattle.search.specs.declared.Found.the-variants as found
 use Rattle.search.specs.Search.{searchOf}
 use Rattle.search.proofs.Answers.{settled-legal, over-lowest, named-if}
-use Rattle.recolour.specs.Recolour.{Asked, RecolouredIn}
+use Rattle.recolour.specs.Recolour.{RecolourAsked, RecolouredIn}
 use Rattle.round.specs.Round.{RoundStep}
-use Rattle.round.specs.Start.{Ready}
+use Rattle.refusals.specs.Start.{Ready}
 use Rattle.round.specs.OneRound.{Untouched, StepMemory, Stepped}
 use Rattle.round.proofs.Condition3.{condition3}
 
-module _ (job : List ℕ) (b : Board) (plan s : List ℕ) (ready : Ready job b plan s) where
+module _ (job : List ℕ) (b : Head) (plan s : List ℕ) (ready : Ready job b plan s) where
   -- what is recoloured is what the search names
-  pub step-asked : (v : Fpga) (A B : Crossbar) → found.Over v A B ≡ searchOf (jobIn job) (at plan) → Asked job b plan (A .0) (B .0) s
+  pub step-asked : (v : Fpga) (A B : Crossbar) → found.Over v A B ≡ searchOf (jobIn job) (at plan) → RecolourAsked job b plan (A .0) (B .0) s
   step-asked v A B e =
       let o = over-lowest (jobIn job) (at plan) (v .0) (A .0) (B .0) (sym e) in
       record {
@@ -66,7 +66,7 @@ module _ (job : List ℕ) (b : Board) (plan s : List ℕ) (ready : Ready job b p
           }
 
 -- the two ways through a step
-module _ (job : List ℕ) (b : Board) (plan s : List ℕ) (r : Found) (named : r ≡ searchOf (jobIn job) (at plan)) where
+module _ (job : List ℕ) (b : Head) (plan s : List ℕ) (r : Found) (named : r ≡ searchOf (jobIn job) (at plan)) where
   pub stepped-settled : r ≡ found.Settled → Stepped job b plan plan s s r
   stepped-settled e =
       record { named = named; memory = subst (λ (k : Found). StepMemory k job b plan plan s s) (sym e) (record { plan-same = refl; scratch-same = refl }) }

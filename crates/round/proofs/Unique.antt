@@ -4,36 +4,34 @@
 -- Assumes nothing.
 use mathlib.Core.Path.{_≡_, refl, sym, subst, subst₂, _∙_}
 use mathlib.Core.Logic.{_↔_}
-use Prim.Native.Nat.{ℕ, _≤_}
+use Prim.Native.Nat.{ℕ}
 use native.Mathlib.Omega.{arith}
-use Rattle.board.specs.Job.{Job}
-use Rattle.board.specs.Board.{total, InRange, Legal}
+use Rattle.board.specs.Netlist.{Netlist}
+use Rattle.board.specs.Board.{total, InRange, Legal, WithinLimits}
 use Rattle.board.specs.Rule.{Recoloured}
 use Rattle.board.proofs.Rule.{rule-totals-once}
 use Rattle.search.specs.Search.{over, searchOf}
 use Rattle.search.proofs.Answers.{over-parts}
-use Rattle.round.specs.Degree.{WithinLimits}
 use Rattle.round.specs.Round.{RoundStep, Chain, Finished}
 use Rattle.round.proofs.Condition3.{round-not-legal, round-named}
-use Rattle.round.proofs.Chains.{chain-short}
 
 -- two rounds on one assignment name the same FPGA and crossbars
-pub round-names-once : (J : Job) (a b b′ : ℕ → ℕ) (s : RoundStep J a b) (t : RoundStep J a b′) → (s .v ≡ t .v) × (s .A ≡ t .A) × (s .B ≡ t .B)
+pub round-names-once : (J : Netlist) (a b b′ : ℕ → ℕ) (s : RoundStep J a b) (t : RoundStep J a b′) → (s .v ≡ t .v) × (s .A ≡ t .A) × (s .B ≡ t .B)
 round-names-once J a b b′ s t = over-parts (s .v) (s .A) (s .B) (t .v) (t .A) (t .B) (sym (s .named) ∙ t .named)
 
 -- so a round is by the rule on the crossbars that the search names
-pub round-rule : (J : Job) (a b : ℕ → ℕ) (v A B : ℕ) → searchOf J a ≡ over v A B → RoundStep J a b → Recoloured J a b A B
+pub round-rule : (J : Netlist) (a b : ℕ → ℕ) (v A B : ℕ) → searchOf J a ≡ over v A B → RoundStep J a b → Recoloured J a b A B
 round-rule J a b v A B e s =
     let p = over-parts (s .v) (s .A) (s .B) v A B (sym (s .named) ∙ e) in
     subst₂ (Recoloured J a b) (p .1) (p .2) (s .rule)
 
 -- and two rounds leave the same totals
-module _ (J : Job) (a b b′ : ℕ → ℕ) (w : WithinLimits J) (h : InRange J a) (s : RoundStep J a b) (t : RoundStep J a b′) where
+module _ (J : Netlist) (a b b′ : ℕ → ℕ) (w : WithinLimits J) (h : InRange J a) (s : RoundStep J a b) (t : RoundStep J a b′) where
   pub round-totals-once : (x : ℕ) → total J b x ≡ total J b′ x
   round-totals-once x =
       rule-totals-once J a a b b′ (s .A) (s .B) (s .rule) (round-rule J a b′ (s .v) (s .A) (s .B) (s .named) t) (round-named J a b s w h .apart) refl refl x refl
 
-module _ (J : Job) (a : ℕ → ℕ) where
+module _ (J : Netlist) (a : ℕ → ℕ) where
   -- from a legal assignment there is the chain of no rounds only
   pub chain-from-legal : Legal J a → {k : ℕ} {b : ℕ → ℕ} → Chain J a k b → (k ≡ 0) × (b ≡ a)
   chain-from-legal z Chain.none = (refl, refl)
@@ -49,10 +47,6 @@ module _ (J : Job) (a : ℕ → ℕ) where
     -- no round is made exactly on a legal start, and then the start is the result
     pub finished-at-once : (k ≡ 0) ↔ Legal J a
     finished-at-once = (λ e. subst (Legal J) (chain-of-none (r .chain) e) (r .legal), λ z. chain-from-legal z (r .chain) .0)
-
-    -- at most as many rounds as the excess that is answered
-    pub finished-short : WithinLimits J → InRange J a → k ≤ s
-    finished-short w h = omega (arith, r .excess, chain-short J a w h (r .chain))
 
     -- the excess that is answered is unique
     pub finished-excess-once : {b′ : ℕ → ℕ} {k′ s′ : ℕ} → Finished J a b′ k′ s′ → s ≡ s′

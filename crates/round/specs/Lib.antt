@@ -1,5 +1,3 @@
--- Rounds and chains of rounds, their refusals, and one round as a call.
-pub mod Degree
+-- Rounds and chains of rounds, and one round as a call.
 pub mod Round
-pub mod Start
 pub mod OneRound

@@ -6,9 +6,8 @@ use lib.ListN.{length, drop}
 use Rattle.laws.specs.Row.{at}
 use Rattle.words.specs.declared.Verdict.{Verdict}
 use Rattle.words.specs.declared.Verdict.the-variants as verdict
-use Rattle.job.specs.declared.Board.{Board}
-use Rattle.job.specs.Job.{nIn}
-use Rattle.board.specs.Job.{jobIn}
+use Rattle.job.specs.declared.Head.{Head}
+use Rattle.job.specs.Job.{nIn, jobIn}
 use Rattle.board.specs.Rule.{Recoloured}
 use Rattle.scratch.specs.Scratch.{scratchLong, cleared}
 use Rattle.search.specs.declared.Found.{Found}
@@ -17,7 +16,7 @@ use Rattle.search.specs.Search.{searchOf}
 use Rattle.recolour.specs.Recolour.{RecolouredIn}
 use Rattle.round.specs.declared.Round.{Round}
 use Rattle.round.specs.declared.Round.the-variants.{Settled, Moved, Refused}
-use Rattle.round.specs.Start.{roundVerdict}
+use Rattle.refusals.specs.Start.{roundVerdict}
 
 -- ---- the answer
 
@@ -52,10 +51,10 @@ pub record OneRound (job plan₀ plan s₀ s : List ℕ) (r : Round) : Type 0 wh
 
 -- ---- the step inside a round or finish, which leaves its work in the scratch
 
-abbrev pub StepMemory : Found → List ℕ → Board → List ℕ → List ℕ → List ℕ → List ℕ → Type 0
-StepMemory found.Settled job b plan₀ plan s₀ s = Untouched plan₀ plan s₀ s
-StepMemory (found.Over v A B) job b plan₀ plan s₀ s = RecolouredIn job b plan₀ plan (A .0) (B .0) s₀ s
+abbrev pub StepMemory : Found → List ℕ → Head → List ℕ → List ℕ → List ℕ → List ℕ → Type 0
+StepMemory found.Settled job h plan₀ plan s₀ s = Untouched plan₀ plan s₀ s
+StepMemory (found.Over v A B) job h plan₀ plan s₀ s = RecolouredIn job h plan₀ plan (A .0) (B .0) s₀ s
 
-pub record Stepped (job : List ℕ) (b : Board) (plan₀ plan s₀ s : List ℕ) (r : Found) : Type 0 where
+pub record Stepped (job : List ℕ) (h : Head) (plan₀ plan s₀ s : List ℕ) (r : Found) : Type 0 where
   pub named : r ≡ searchOf (jobIn job) (at plan₀)
-  pub memory : StepMemory r job b plan₀ plan s₀ s
+  pub memory : StepMemory r job h plan₀ plan s₀ s

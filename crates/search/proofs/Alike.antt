@@ -8,12 +8,12 @@ use native.Mathlib.Omega.{arith}
 use lib.Dec.{ltb}
 use borrow.Author.Tests.{le-ltb}
 use Rattle.laws.proofs.FirstWhere.{first-where-same}
-use Rattle.board.specs.Job.{Job}
+use Rattle.board.specs.Netlist.{Netlist}
 use Rattle.board.specs.Board.{load, Alike}
 use Rattle.board.proofs.Alike.{load-alike}
 use Rattle.search.specs.Search.{overAt, roomAt, overFpga, fpgaOf, crowdedOf, roomOf, searchOf}
 
-module _ (J : Job) (a b : ℕ → ℕ) (e : (v x : ℕ) → v < J .f → x < J .c → load J a v x ≡ load J b v x) where
+module _ (J : Netlist) (a b : ℕ → ℕ) (e : (v x : ℕ) → v < J .f → x < J .c → load J a v x ≡ load J b v x) where
   same-crowded : (v : ℕ) → v < J .f → crowdedOf J a v ≡ crowdedOf J b v
   unfolding crowdedOf overAt
   same-crowded v lv = first-where-same (overAt J a v) (overAt J b v) (J .c) (λ x lx. ap (λ (k : ℕ). ltb (J .width v) k) (e v x lv lx))
@@ -32,5 +32,5 @@ module _ (J : Job) (a b : ℕ → ℕ) (e : (v x : ℕ) → v < J .f → x < J .
       dite (decLt (fpgaOf J b) (J .f)) (λ l. rw (same-fpga, same-crowded (fpgaOf J b) l, same-room (fpgaOf J b) l))
       (λ nl. let q : J .f ≤ fpgaOf J b = omega arith in rw (same-fpga, le-ltb (fpgaOf J b) (J .f) q))
 
-pub search-alike : (J : Job) (a b : ℕ → ℕ) → Alike J a b → searchOf J a ≡ searchOf J b
+pub search-alike : (J : Netlist) (a b : ℕ → ℕ) → Alike J a b → searchOf J a ≡ searchOf J b
 search-alike J a b e = search-by-loads J a b (λ v x lv lx. load-alike J a b e v x)

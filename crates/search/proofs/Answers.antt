@@ -8,16 +8,16 @@ use native.Mathlib.Decide.{decLt}
 use native.Mathlib.Omega.{arith}
 use borrow.Author.Tests.{lt-ltb, le-ltb, ltb-true}
 use Rattle.laws.specs.Lowest.{firstWhere}
-use Rattle.laws.proofs.FirstWhere.{first-where-at-most, first-where-before, first-where-holds, first-where-is, first-where-none, lowest-is-first}
+use Rattle.laws.proofs.FirstWhere.{first-where-at-most, first-where-before, first-where-holds, first-where-none, lowest-is-first}
 use Rattle.words.specs.declared.Fpga.{Fpga}
 use Rattle.words.specs.declared.Crossbar.{Crossbar}
-use Rattle.board.specs.Job.{Job}
+use Rattle.board.specs.Netlist.{Netlist}
 use Rattle.board.specs.Board.{degree, load, limit, InRange, Legal}
 use Rattle.board.proofs.Excess.{legal-within, within-legal}
 use Rattle.board.proofs.Limit.{room-below}
 use Rattle.search.specs.declared.Found.the-variants.{Settled}
 use Rattle.search.specs.Search.{overAt, roomAt, overFpga, fpgaOf, crowdedOf, roomOf, over, searchOf, LowestOver, Named}
-use Rattle.search.proofs.Tests.{over-says, over-not, room-says, room-not, over-some, over-none}
+use Rattle.search.proofs.Tests.{over-says, over-not, room-says, over-none}
 
 -- an answer names one FPGA and two crossbars
 pub over-parts : (v A B v′ A′ B′ : ℕ) → over v A B ≡ over v′ A′ B′ → (v ≡ v′) × (A ≡ A′) × (B ≡ B′)
@@ -28,13 +28,13 @@ over-parts v A B v′ A′ B′ e =
     (ap (λ (x : Fpga). x .0) p, ap (λ (x : Crossbar). x .0) q, ap (λ (x : Crossbar). x .0) r)
 
 -- the three that an answer names
-record Three (J : Job) (a : ℕ → ℕ) (v A B : ℕ) : Type 0 where
+record Three (J : Netlist) (a : ℕ → ℕ) (v A B : ℕ) : Type 0 where
   below : v < J .f
   fpga : fpgaOf J a ≡ v
   crowded : crowdedOf J a v ≡ A
   room : roomOf J a v ≡ B
 
-module _ (J : Job) (a : ℕ → ℕ) where
+module _ (J : Netlist) (a : ℕ → ℕ) where
   pub fpga-at-most : fpgaOf J a ≤ J .f
   unfolding fpgaOf
   fpga-at-most = first-where-at-most (overFpga J a) (J .f)
@@ -86,15 +86,6 @@ module _ (J : Job) (a : ℕ → ℕ) where
   pub settled-legal : (searchOf J a ≡ Settled) ↔ Legal J a
   settled-legal = (λ e. none-legal .0 (settled-none e), λ h. search-none (none-legal .1 h))
 
-  -- and else three are named
-  pub not-legal-over : (Legal J a → ⊥) → (v : ℕ) × (A : ℕ) × (B : ℕ) × (searchOf J a ≡ over v A B)
-  not-legal-over nl = (
-    fpgaOf J a,
-    crowdedOf J a (fpgaOf J a),
-    roomOf J a (fpgaOf J a),
-    search-some (dite (decLt (fpgaOf J a) (J .f)) (λ l. l) (λ q. absurd (nl (none-legal .0 (omega (arith, fpga-at-most)))))),
-  )
-
   pub over-not-legal : (v A B : ℕ) → searchOf J a ≡ over v A B → Legal J a → ⊥
   over-not-legal v A B e h =
       let s = settled-legal .1 h in
@@ -131,20 +122,3 @@ module _ (J : Job) (a : ℕ → ℕ) where
           room = record { crossbar = omega (arith, w .below); below = below; lower-crossbars = λ x l. omega (arith, w .first x (omega arith)) };
           apart = λ q. omega (arith, o .above, ap (load J a v) q);
         }
-
-    -- only those three are the answer
-    pub named-search : Named J a v A B → searchOf J a ≡ over v A B
-    unfolding fpgaOf crowdedOf roomOf
-    named-search n =
-        three-search v A B
-        (record {
-          below = n .over .fpga;
-          fpga = first-where-is (overFpga J a) v (J .f) (n .over .fpga) (over-some J a v A (n .over .crossbar) (n .over .above))
-              (λ u l. over-none J a u .1 (λ x lx. n .over .lower-fpgas u x l lx));
-          crowded = first-where-is (overAt J a v) A (J .c) (n .over .crossbar) (over-says J a v A .1 (n .over .above)) (λ x l. over-not J a v x .1 (n .over .lower-crossbars x l));
-          room = first-where-is (roomAt J a v) B (J .c) (n .room .crossbar) (room-says J a v B .1 (n .room .below)) (λ x l. room-not J a v x .1 (n .room .lower-crossbars x l));
-        })
-
--- the three that a round names are unique
-pub named-once : (J : Job) (a : ℕ → ℕ) (v A B v′ A′ B′ : ℕ) → Named J a v A B → Named J a v′ A′ B′ → (v ≡ v′) × (A ≡ A′) × (B ≡ B′)
-named-once J a v A B v′ A′ B′ n o = over-parts v A B v′ A′ B′ (sym (named-search J a v A B n) ∙ named-search J a v′ A′ B′ o)

@@ -4,11 +4,11 @@ use mathlib.Core.Path.{_≡_, refl}
 use Prim.Native.Nat.{ℕ, _+_, min, _≤_}
 use Rattle.laws.specs.Lowest.{somewhere}
 use Rattle.laws.proofs.FirstWhere.{first-where-at-most, first-row-none, first-row-more}
-use Rattle.board.specs.Job.{Job}
+use Rattle.board.specs.Netlist.{Netlist}
 use Rattle.search.specs.Search.{overAt, overFpga, fpgaOf}
 use Rattle.search.specs.Columns.{fpgaBelow, fpgaAt}
 
-module _ (J : Job) (a : ℕ → ℕ) where
+module _ (J : Netlist) (a : ℕ → ℕ) where
   -- the FPGA: none at first, then the lower of the two, and at the end the search's
   pub fpga-below-none : fpgaBelow J a 0 ≡ J .f
   unfolding fpgaBelow

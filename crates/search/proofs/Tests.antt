@@ -1,18 +1,18 @@
 -- What the tests of the search say of the loads.
 -- Assumes nothing.
 use mathlib.Core.Path.{_≡_}
-use mathlib.Core.Bool.{true, false}
+use mathlib.Core.Bool.{false}
 use mathlib.Core.Logic.{_↔_}
 use Prim.Native.Nat.{ℕ, _≤_, _<_}
 use borrow.Author.Tests.{le-ltb, ltb-false}
 use Rattle.laws.specs.Test.{Says}
 use Rattle.laws.proofs.Test.{ltb-says}
-use Rattle.laws.proofs.FirstWhere.{somewhere-true, somewhere-false}
-use Rattle.board.specs.Job.{Job}
+use Rattle.laws.proofs.FirstWhere.{somewhere-false}
+use Rattle.board.specs.Netlist.{Netlist}
 use Rattle.board.specs.Board.{load}
 use Rattle.search.specs.Search.{overAt, roomAt, overFpga}
 
-module _ (J : Job) (a : ℕ → ℕ) (v : ℕ) where
+module _ (J : Netlist) (a : ℕ → ℕ) (v : ℕ) where
   pub over-says : (x : ℕ) → Says (overAt J a v x) (J .width v < load J a v x)
   unfolding overAt
   over-says x = ltb-says (J .width v) (load J a v x)
@@ -24,15 +24,6 @@ module _ (J : Job) (a : ℕ → ℕ) (v : ℕ) where
   pub room-says : (x : ℕ) → Says (roomAt J a v x) (load J a v x < J .width v)
   unfolding roomAt
   room-says x = ltb-says (load J a v x) (J .width v)
-
-  pub room-not : (x : ℕ) → (roomAt J a v x ≡ false) ↔ (J .width v ≤ load J a v x)
-  unfolding roomAt
-  room-not x = (ltb-false (load J a v x) (J .width v), le-ltb (load J a v x) (J .width v))
-
-  -- an FPGA with a load above m, and one with none
-  pub over-some : (x : ℕ) → x < J .c → J .width v < load J a v x → overFpga J a v ≡ true
-  unfolding overFpga
-  over-some x l o = somewhere-true (overAt J a v) x (J .c) l (over-says x .1 o)
 
   pub over-none : (overFpga J a v ≡ false) ↔ ((x : ℕ) → x < J .c → load J a v x ≤ J .width v)
   unfolding overFpga

@@ -5,11 +5,12 @@ ghost use lib.Dec.{ltb};
 ghost use lib.ListN.{length};
 ghost use Rattle.laws.specs.Row.{at};
 ghost use Rattle.laws.specs.Lowest.{firstWhere};
-ghost use Rattle.job.specs.Check.{Passed};
-ghost use Rattle.board.specs.Job.{jobIn};
+ghost use Rattle.job.specs.Check.{WellFormed};
+ghost use Rattle.job.specs.Job.{jobIn};
 ghost use Rattle.board.specs.Board.{InRange};
 ghost use Rattle.search.specs.Search.{fpgaOf, searchOf};
-use job::Board;
+use job::Head;
+use job::wires::width_of;
 use tally::count::loads_of;
 use tally::count::loads_on;
 use words::Crossbar;
@@ -52,35 +53,51 @@ fn first_below(count: &[u16], n: usize, m: usize) -> usize
     n
 }
 
-// The lowest FPGA with a load above m on any crossbar; f if there is none.
-fn lowest_over(job: &[u8], b: Board, a: &[u16]) -> usize
-    requires { ⌜ (Passed (now job) b) × (b .n ≤ length (now a)) ⌝ }
-    ensures { λ r. ⌜ r ≡ fpgaOf (jobIn (now (job .entry))) (at (now (a .entry))) ⌝ }
+// The first of n FPGAs whose counter is above its width; n if there is none.
+fn first_over(job: &[u8], head: Head, count: [u16; 256], n: usize) -> usize
+    requires { ⌜ (WellFormed (now job) head) × (n ≤ 256) ⌝ }
+    ensures { λ r. ⌜ r ≡ firstWhere (λ v. ltb (jobIn (now (job .entry)) .width v) (at count v)) n ⌝ }
 {
-    let mut low = b.f;
+    let mut v: usize = 0;
+    while v < n {
+        if width_of(job, head, v) < wide(count[v]) {
+            return v;
+        }
+        v += 1;
+    }
+    v
+}
+
+// The lowest FPGA with a load above its width on any crossbar; f if there is none.
+fn lowest_over(job: &[u8], head: Head, plan: &[u16]) -> usize
+    requires { ⌜ (WellFormed (now job) head) × (head .n ≤ length (now plan)) ⌝ }
+    ensures { λ r. ⌜ r ≡ fpgaOf (jobIn (now (job .entry))) (at (now (plan .entry))) ⌝ }
+{
+    let mut low = head.f;
     let mut x: usize = 0;
-    while x < b.c {
-        let count = loads_on(job, b, a, x);
+    while x < head.c {
+        let count = loads_on(job, head, plan, x);
         // Only an FPGA below the lowest so far can be the answer.
-        low = first_above(&count, low, b.m);
+        low = first_over(job, head, count, low);
         x += 1;
     }
     low
 }
 
 // What a round is made on, or that the assignment is legal.
-pub fn search(job: &[u8], b: Board, a: &[u16]) -> Found
-    requires { ⌜ (Passed (now job) b) × (b .n ≤ length (now a)) ⌝ }
-    requires { ⌜ InRange (jobIn (now job)) (at (now a)) ⌝ }
-    ensures { λ r. ⌜ r ≡ searchOf (jobIn (now (job .entry))) (at (now (a .entry))) ⌝ }
+pub fn search(job: &[u8], head: Head, plan: &[u16]) -> Found
+    requires { ⌜ (WellFormed (now job) head) × (head .n ≤ length (now plan)) ⌝ }
+    requires { ⌜ InRange (jobIn (now job)) (at (now plan)) ⌝ }
+    ensures { λ r. ⌜ r ≡ searchOf (jobIn (now (job .entry))) (at (now (plan .entry))) ⌝ }
 {
-    let v = lowest_over(job, b, a);
-    if b.f <= v {
+    let v = lowest_over(job, head, plan);
+    if head.f <= v {
         return Found::Settled;
     }
-    let loads = loads_of(job, b, a, v);
-    let crowded = first_above(&loads, b.c, b.m);
-    let room = first_below(&loads, b.c, b.m);
+    let loads = loads_of(job, head, plan, v);
+    let width = width_of(job, head, v);
+    let crowded = first_above(&loads, head.c, width);
+    let room = first_below(&loads, head.c, width);
     Found::Over(
         Fpga(v as u16),
         Crossbar(crowded as u16),

@@ -1,79 +1,77 @@
--- What a written sheet says.
+-- What a written sheet says, and what is read of any sheet that is long enough.
 -- Assumes nothing.
-use mathlib.Core.Path.{_≡_, refl, ap, sym, _∙_}
+use mathlib.Core.Path.{_≡_, ap, sym, _∙_}
 use mathlib.Core.List.{List, _∷_, _++_}
 use Prim.Native.Nat.{ℕ, suc, _+_, _-_, _*_, _≤_, _<_}
 use native.Mathlib.Omega.{arith}
 use lib.ListN.{length, getD, take, drop, length-append, List·getD-append}
-use lib.Seq.{getD-at, getD-append-add, take-at, length-take-le}
+use lib.Seq.{getD-at, getD-append-add, getD-take, take-at, drop-at, length-take-le}
 use Rattle.laws.specs.Row.{at, row}
-use Rattle.laws.proofs.Row.{length-row, row-at}
+use Rattle.laws.proofs.Row.{length-row, row-at, row-same}
 use Rattle.words.specs.Lent.{onto}
 use Rattle.words.specs.Number.{word, bytes, numbers}
-use Rattle.words.proofs.Bytes.{length-bytes, word-bytes, numbers-row, lent-to-end}
-use Rattle.job.specs.Job.{fAt, cAt, mAt, nAt, fIn, cIn, mIn, nIn}
-use Rattle.board.specs.Job.{jobIn}
-use Rattle.board.specs.Board.{total}
-use Rattle.sheet.specs.Sheet.{numbersAt, totalsCountAt, sheetLength, crossbarIn, totalIn, sheetNumbers, sheetOf}
+use Rattle.words.proofs.Bytes.{length-bytes, word-bytes, word-drop, numbers-row, lent-to-end}
+use Rattle.board.specs.Board.{total, Alike}
+use Rattle.board.proofs.Alike.{total-alike}
+use Rattle.job.specs.declared.Head.{Head}
+use Rattle.job.specs.Job.{netsAt, cIn, nIn, jobIn}
+use Rattle.job.specs.Check.{WellFormed}
+use Rattle.sheet.specs.Sheet.{totalsCountAt, sheetLength, crossbarIn, totalIn, sheetNumbers, sheetOf}
 
-module _ (job : List ℕ) (a : ℕ → ℕ) where
-  pub said-length : length (sheetOf job a) ≡ sheetLength (nIn job) (cIn job)
+-- ---- what is written
+
+module _ (job : List ℕ) (a : ℕ → ℕ) (whole : netsAt job ≤ length job) where
+  head-long : length (take (netsAt job) job) ≡ netsAt job
+  head-long = length-take-le (netsAt job) job whole
+
+  pub said-length : length (sheetOf job a) ≡ sheetLength job
   unfolding sheetOf
-  said-length =
-      length-bytes (sheetNumbers job a)
-      ∙ simp (length-append, length-row) (omega arith)
+  said-length = simp (length-append, length-bytes, length-row, head-long) (omega arith)
 
-  pub said-count : word (sheetOf job a) 0 ≡ 3
+  -- the job's own head
+  pub said-head : (i : ℕ) → i + 1 < netsAt job → word (sheetOf job a) i ≡ word job i
+  unfolding sheetOf word
+  said-head i l = rw (same i (omega arith), same (i + 1) l)
+    where
+      same : (i : ℕ) → i < netsAt job → getD (take (netsAt job) job ++ bytes (sheetNumbers job a)) i 0 ≡ getD job i 0
+      same i l = List·getD-append (take (netsAt job) job) (bytes (sheetNumbers job a)) 0 i (omega (arith, head-long)) ∙ getD-take (netsAt job) job i 0 l
+
+  -- a number behind it
+  behind : (k : ℕ) → word (sheetOf job a) (netsAt job + 2 * k) ≡ getD (sheetNumbers job a) k 0
   unfolding sheetOf
-  said-count = word-bytes (sheetNumbers job a) 0
+  behind k = sym (word-drop (netsAt job) _ (2 * k)) ∙ rw (drop-at _ (bytes (sheetNumbers job a)) (netsAt job) head-long) (word-bytes (sheetNumbers job a) k)
 
-  pub said-f : word (sheetOf job a) fAt ≡ fIn job
-  unfolding sheetOf
-  said-f = word-bytes (sheetNumbers job a) 1
+  pub said-crossbar : (i : ℕ) → i < nIn job → crossbarIn job (sheetOf job a) i ≡ a i
+  said-crossbar i l = behind i ∙ List·getD-append (row a (nIn job)) _ 0 i (omega (arith, length-row a (nIn job))) ∙ row-at a (nIn job) i l
 
-  pub said-c : word (sheetOf job a) cAt ≡ cIn job
-  unfolding sheetOf
-  said-c = word-bytes (sheetNumbers job a) 2
+  pub said-totals-count : word (sheetOf job a) (totalsCountAt job) ≡ cIn job
+  said-totals-count = behind (nIn job) ∙ getD-at (row a (nIn job)) _ _ 0 (nIn job) (length-row a (nIn job))
 
-  pub said-m : word (sheetOf job a) mAt ≡ mIn job
-  unfolding sheetOf
-  said-m = word-bytes (sheetNumbers job a) 3
-
-  pub said-n : word (sheetOf job a) nAt ≡ nIn job
-  unfolding sheetOf
-  said-n = word-bytes (sheetNumbers job a) 4
-
-  -- a number behind the head
-  behind : (k at : ℕ) → at ≡ 2 * suc (suc (suc (suc (suc k)))) → word (sheetOf job a) at ≡ getD (row a (nIn job) ++ (cIn job ∷ row (total (jobIn job) a) (cIn job))) k 0
-  unfolding sheetOf
-  behind k at e = ap (word (bytes (sheetNumbers job a))) e ∙ word-bytes (sheetNumbers job a) (suc (suc (suc (suc (suc k)))))
-
-  pub said-crossbar : (i : ℕ) → i < nIn job → crossbarIn (sheetOf job a) i ≡ a i
-  said-crossbar i l =
-      behind i _ (omega arith) ∙ List·getD-append (row a (nIn job)) _ 0 i (omega (arith, length-row a (nIn job))) ∙ row-at a (nIn job) i l
-
-  pub said-totals-count : word (sheetOf job a) (totalsCountAt (nIn job)) ≡ cIn job
-  said-totals-count = behind (nIn job) _ (omega arith) ∙ getD-at (row a (nIn job)) _ _ 0 (nIn job) (length-row a (nIn job))
-
-  pub said-total : (x : ℕ) → x < cIn job → totalIn (nIn job) (sheetOf job a) x ≡ total (jobIn job) a x
+  pub said-total : (x : ℕ) → x < cIn job → totalIn job (sheetOf job a) x ≡ total (jobIn job) a x
   said-total x l =
-      let e : length (row a (nIn job)) + suc x ≡ nIn job + suc x = ap (λ (k : ℕ). k + suc x) (length-row a (nIn job)) in
-      behind (nIn job + suc x) _ (omega arith)
-      ∙ ap (λ (k : ℕ). getD (row a (nIn job) ++ (cIn job ∷ row (total (jobIn job) a) (cIn job))) k 0) (sym e)
+      let e : netsAt job + 2 * nIn job + 2 + 2 * x ≡ netsAt job + 2 * (length (row a (nIn job)) + suc x) = omega (arith, length-row a (nIn job)) in
+      ap (word (sheetOf job a)) e ∙ behind (length (row a (nIn job)) + suc x)
       ∙ getD-append-add (row a (nIn job)) (cIn job ∷ row (total (jobIn job) a) (cIn job)) (suc x) 0
       ∙ row-at (total (jobIn job) a) (cIn job) x l
 
--- the crossbar numbers of any sheet that is long enough, read in order
-pub numbers-read : (sheet : List ℕ) (n : ℕ) → totalsCountAt n ≤ length sheet → take n (numbers (drop numbersAt sheet)) ≡ row (crossbarIn sheet) n
-numbers-read sheet n h = ap (take n) (numbers-row sheet numbersAt n h) ∙ take-at (row (crossbarIn sheet) n) _ n (length-row (crossbarIn sheet) n)
+-- assignments that agree on every net have the same sheet
+pub same-sheet : (job : List ℕ) (a b : ℕ → ℕ) → ((i : ℕ) → i < nIn job → a i ≡ b i) → sheetOf job a ≡ sheetOf job b
+unfolding sheetOf
+same-sheet job a b h = rw (row-same a b (nIn job) h, row-same (total (jobIn job) a) (total (jobIn job) b) (cIn job) (λ x l. total-alike (jobIn job) a b h x))
 
--- read into the front of a lent list
-pub front-read : (sheet plan new : List ℕ) (n : ℕ) → totalsCountAt n ≤ length sheet → n ≤ length plan
-    → new ≡ take (length (take n plan)) (numbers (take (length sheet - numbersAt) (drop numbersAt sheet))) → new ++ drop n plan ≡ onto (row (crossbarIn sheet) n) plan
-front-read sheet plan new n h l e =
-    rw (e, length-take-le n plan l, lent-to-end sheet numbersAt, numbers-read sheet n h, length-row (crossbarIn sheet) n)
+-- ---- what is read
 
--- so the list says what the sheet says
-pub front-alike : (sheet plan : List ℕ) (n i : ℕ) → i < n → at (onto (row (crossbarIn sheet) n) plan) i ≡ crossbarIn sheet i
-front-alike sheet plan n i l =
-    List·getD-append (row (crossbarIn sheet) n) _ 0 i (omega (arith, length-row (crossbarIn sheet) n)) ∙ row-at (crossbarIn sheet) n i l
+module _ (job sheet : List ℕ) where
+  -- the crossbar numbers, to the front of a lent list
+  pub front-read : (h : Head) → WellFormed job h → (plan new : List ℕ) → totalsCountAt job ≤ length sheet → h .n ≤ length plan
+      → new ≡ take (length (take (h .n) plan)) (numbers (take (length sheet - h .start) (drop (h .start) sheet))) → new ++ drop (h .n) plan ≡ onto (row (crossbarIn job sheet) (nIn job)) plan
+  front-read h p plan new long l e =
+      rw (e, length-take-le (h .n) plan l, lent-to-end sheet (h .start), p .n, p .start, read, length-row (crossbarIn job sheet) (nIn job))
+    where
+      read : take (nIn job) (numbers (drop (netsAt job) sheet)) ≡ row (crossbarIn job sheet) (nIn job)
+      read = ap (take (nIn job)) (numbers-row sheet (netsAt job) (nIn job) long) ∙ take-at (row (crossbarIn job sheet) (nIn job)) _ (nIn job) (length-row (crossbarIn job sheet) (nIn job))
+
+  -- so the list says what the sheet says
+  pub front-alike : (plan r : List ℕ) → plan ≡ onto (row (crossbarIn job sheet) (nIn job)) r → Alike (jobIn job) (at plan) (crossbarIn job sheet)
+  front-alike plan r e i l =
+      rw e (List·getD-append (row (crossbarIn job sheet) (nIn job)) _ 0 i (omega (arith, length-row (crossbarIn job sheet) (nIn job))) ∙ row-at (crossbarIn job sheet) (nIn job) i l)

@@ -1,4 +1,2 @@
--- The sheet: what it holds, what is written, and what the audit says.
+-- The sheet: what stands where in it.
 pub mod Sheet
-pub mod Audit
-pub mod Evidence

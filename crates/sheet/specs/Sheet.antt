@@ -1,43 +1,32 @@
--- The sheet: count 3, then f, c, m; count n, then n crossbar numbers in net order; count c, then c totals.
+-- The sheet: the job's own bytes up to its nets, then n crossbar numbers in net order; count c, then c totals.
 use mathlib.Core.List.{List, _∷_, _++_}
 use Prim.Native.Nat.{ℕ, _+_, _*_}
 use lib.ListN.{take}
 use Rattle.laws.specs.Row.{row}
 use Rattle.words.specs.Number.{word, bytes}
-use Rattle.job.specs.declared.Board.{Board}
-use Rattle.job.specs.Job.{fIn, cIn, mIn, nIn}
-use Rattle.board.specs.Job.{jobIn}
 use Rattle.board.specs.Board.{total}
+use Rattle.job.specs.Job.{netsAt, cIn, nIn, jobIn}
 
--- the byte of the first crossbar number, of the totals' count, of the first total
-abbrev pub numbersAt : ℕ
-numbersAt = 10
+-- the byte of the totals' count and of the first total, and the length; the first crossbar number stands where the job's nets start
+abbrev pub totalsCountAt : List ℕ → ℕ
+totalsCountAt job = netsAt job + 2 * nIn job
 
-abbrev pub totalsCountAt : ℕ → ℕ
-totalsCountAt n = numbersAt + 2 * n
+abbrev pub totalsAt : List ℕ → ℕ
+totalsAt job = totalsCountAt job + 2
 
-abbrev pub totalsAt : ℕ → ℕ
-totalsAt n = totalsCountAt n + 2
+abbrev pub sheetLength : List ℕ → ℕ
+sheetLength job = totalsAt job + 2 * cIn job
 
--- 12 + 2n + 2c
-abbrev pub sheetLength : ℕ → ℕ → ℕ
-sheetLength n c = totalsAt n + 2 * c
+-- what a sheet of this job says: the crossbar of net i; the total of crossbar x
+abbrev pub crossbarIn : List ℕ → List ℕ → ℕ → ℕ
+crossbarIn job sheet i = word sheet (netsAt job + 2 * i)
 
--- what a sheet says: the crossbar of net i; the total of crossbar x
-abbrev pub crossbarIn : List ℕ → ℕ → ℕ
-crossbarIn sheet i = word sheet (numbersAt + 2 * i)
+abbrev pub totalIn : List ℕ → List ℕ → ℕ → ℕ
+totalIn job sheet x = word sheet (totalsAt job + 2 * x)
 
-abbrev pub totalIn : ℕ → List ℕ → ℕ → ℕ
-totalIn n sheet x = word sheet (totalsAt n + 2 * x)
-
--- its numbers for an assignment, and its bytes
+-- its numbers behind the head for an assignment, and its bytes
 abbrev pub sheetNumbers : List ℕ → (ℕ → ℕ) → List ℕ
-sheetNumbers job a =
-    3 ∷ fIn job ∷ cIn job ∷ mIn job ∷ nIn job ∷ (row a (nIn job) ++ (cIn job ∷ row (total (jobIn job) a) (cIn job)))
+sheetNumbers job a = row a (nIn job) ++ (cIn job ∷ row (total (jobIn job) a) (cIn job))
 
 unfoldable pub sheetOf : List ℕ → (ℕ → ℕ) → List ℕ
-sheetOf job a = bytes (sheetNumbers job a)
-
--- the same bytes from the board's numbers, a list of crossbar numbers and a list of totals
-unfoldable pub sheetBytes : Board → List ℕ → List ℕ → List ℕ
-sheetBytes b plan totals = bytes (3 ∷ b .f ∷ b .c ∷ b .m ∷ b .n ∷ (take (b .n) plan ++ (b .c ∷ take (b .c) totals)))
+sheetOf job a = take (netsAt job) job ++ bytes (sheetNumbers job a)

@@ -4,14 +4,19 @@ ghost use Prim.Native.Nat.{_≤_};
 ghost use lib.ListN.{length};
 ghost use Rattle.laws.specs.Row.{row};
 ghost use Rattle.words.specs.Lent.{onto};
+ghost use Rattle.job.specs.Job.{nIn};
+ghost use Rattle.job.specs.Check.{WellFormed};
 ghost use Rattle.sheet.specs.Sheet.{totalsCountAt, crossbarIn};
-use crate::NUMBERS_AT;
+use job::Head;
 use words::number::read_list;
 
 // The n crossbar numbers of a sheet to the front of the list.
-pub fn numbers_of(sheet: &[u8], n: usize, plan: &mut [u16])
-    requires { ⌜ (totalsCountAt n ≤ length (now sheet)) × (n ≤ length (now plan)) ⌝ }
-    ensures { λ r. ⌜ now (plan .exit) ≡ onto (row (crossbarIn (now (sheet .entry))) n) (now (plan .entry)) ⌝ }
+pub fn numbers_of(job: &[u8], head: Head, sheet: &[u8], plan: &mut [u16])
+    requires { ⌜ WellFormed (now job) head ⌝ }
+    requires { ⌜ (totalsCountAt (now job) ≤ length (now sheet)) × (head .n ≤ length (now plan)) ⌝ }
+    ensures { λ r. ⌜ now (plan .exit) ≡ onto (row (crossbarIn (now (job .entry)) (now (sheet .entry))) (nIn (now (job .entry)))) (now (plan .entry)) ⌝ }
 {
-    read_list(&sheet[NUMBERS_AT..], &mut plan[..n]);
+    let start = head.start;
+    let n = head.n;
+    read_list(&sheet[start..], &mut plan[..n]);
 }

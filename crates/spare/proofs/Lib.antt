@@ -1,3 +1,2 @@
 -- The laws of spare and headroom.
-pub mod Fitting
 pub mod Rooms

@@ -6,13 +6,11 @@ use Prim.Native.Nat.{ℕ, _+_, _≤_, _<_}
 use native.Mathlib.Omega.{arith}
 use borrow.Author.Tests.{eq-eqb}
 use Rattle.laws.specs.Sum.{sum}
-use Rattle.laws.specs.Matching.{is}
-use Rattle.laws.proofs.Sum.{sum-same, sum-pairs, sum-append, sum-zero}
+use Rattle.laws.proofs.Sum.{sum-pairs, sum-append, sum-zero}
 use Rattle.laws.proofs.Cases.{by-same}
-use Rattle.laws.proofs.Matching.{is-same}
 use Rattle.pair.specs.Pair.{hit, count, Near}
-use Rattle.pair.proofs.Counting.{hit-not, hit-same, count-same}
-use Rattle.split.specs.Split.{stands, ends, loadOn, Shared, Halves}
+use Rattle.pair.proofs.Counting.{hit-not, hit-same}
+use Rattle.split.specs.Split.{stands, ends, loadOn, Shared}
 
 -- an item counts for its own label
 pub hit-own : (fpga x : ℕ → ℕ) (v b i : ℕ) → x i ≡ b → hit fpga x v b i ≡ stands fpga v i
@@ -67,25 +65,6 @@ module _ (f g f′ g′ : ℕ → ℕ) (k : ℕ) (h : (e : ℕ) → e < k → ((
     where
       at : (p q : ℕ → ℕ) (e : ℕ) → p e ≡ q e → hit p x v b e ≡ hit q x v b e
       at p q e z = hit-same p q x x v b e z refl
-
--- only the nets below k count
-pub halves-same : (f g x f′ g′ x′ : ℕ → ℕ) (k : ℕ) → ((e : ℕ) → e < k → f′ e ≡ f e) → ((e : ℕ) → e < k → g′ e ≡ g e) → ((e : ℕ) → e < k → x′ e ≡ x e)
-    → Halves f g x k → Halves f′ g′ x′ k
-halves-same f g x f′ g′ x′ k ef eg ex h =
-    record {
-      binary = λ e l. rw (ex e l) (h .binary e l);
-      level = rw (labels 0, labels 1) (h .level);
-      at-fpga = λ v l. rw (at f′ f v ef, at g′ g v eg, load f′ f ef v 0, load f′ f ef v 1, load g′ g eg v 0, load g′ g eg v 1) (h .at-fpga v l);
-    }
-  where
-    labels : (b : ℕ) → sum (is x′ b) k ≡ sum (is x b) k
-    labels b = sum-same (is x′ b) (is x b) k (λ e l. is-same x′ x b e (ex e l))
-
-    at : (p q : ℕ → ℕ) (v : ℕ) → ((e : ℕ) → e < k → p e ≡ q e) → sum (stands p v) k ≡ sum (stands q v) k
-    at p q v z = sum-same (stands p v) (stands q v) k (λ e l. stands-same p q v e e (z e l))
-
-    load : (p q : ℕ → ℕ) → ((e : ℕ) → e < k → p e ≡ q e) → (v b : ℕ) → count p x′ v b k ≡ count q x v b k
-    load p q z v b = count-same p q x′ x k z ex v b
 
 -- the rule: t leave and h enter, a and c of them labelled 0, b and d labelled 1
 pub rule : (n t h a b c d : ℕ) → t + h ≡ n → a + b ≡ t → c + d ≡ h → Near t h → Near a b → Near c d

@@ -9,21 +9,21 @@ use Rattle.laws.specs.Row.{at}
 use Rattle.laws.specs.Matching.{Alternates}
 use Rattle.laws.proofs.Part.{part-at, part-front, kept-then, kept-below, kept-at-below}
 use Rattle.scratch.specs.Scratch.{endsFrom, matesFrom, labelsFrom}
-use Rattle.pair.specs.Pair.{Asked, Pairing}
+use Rattle.pair.specs.Pair.{ItemsIn, Pairing}
 use Rattle.pair.proofs.Counting.{near-same}
 use Rattle.walk.specs.Walk.{Matched, Alternated}
-use Rattle.split.specs.Split.{Nets, firstEnd, secondEnd, labelOf}
+use Rattle.split.specs.Split.{NetsIn, firstEnd, secondEnd, labelOf}
 use Rattle.split.specs.Stages.{Coloured}
 use Rattle.split.proofs.Reading.{asked-at, alternates-at, behind-ends}
 
-module _ (s : List ℕ) (k : ℕ) (g : Nets s k) where
-  pub out-asked : Asked s endsFrom matesFrom k
+module _ (s : List ℕ) (k : ℕ) (g : NetsIn s k) where
+  pub out-asked : ItemsIn s endsFrom matesFrom k
   out-asked =
       asked-at s endsFrom matesFrom k (omega arith) (g .even) (omega arith) (omega arith)
       (λ i l. let e : endsFrom + i ≡ i = omega arith in rw e (g .known i (omega arith)))
 
   module _ (s₁ : List ℕ) (p₁ : Pairing s s₁ endsFrom matesFrom k) where
-    pub into-asked : Asked s₁ k (matesFrom + k) k
+    pub into-asked : ItemsIn s₁ k (matesFrom + k) k
     into-asked =
         asked-at s₁ k (matesFrom + k) k (omega arith) (g .even) (omega arith) (omega (arith, p₁ .kept .long))
         (λ i l. rw (kept-at-below s s₁ matesFrom k (p₁ .kept) (k + i) (omega arith)) (g .known (k + i) (omega arith)))

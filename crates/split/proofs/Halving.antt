@@ -11,13 +11,13 @@ use Rattle.laws.proofs.Part.{kept-then, kept-at-below}
 use Rattle.laws.proofs.Cases.{by-half}
 use Rattle.scratch.specs.Scratch.{region, endsFrom, matesFrom, scratchLong}
 use Rattle.pair.specs.Pair.{fpgaCount}
-use Rattle.split.specs.Split.{Nets, Halves, Halved, SameEnds, firstEnd, secondEnd, labelOf}
+use Rattle.split.specs.Split.{NetsIn, HalvesNets, Halved, SameEnds, firstEnd, secondEnd, labelOf}
 use Rattle.split.specs.Stages.{Oriented, Coloured}
 use Rattle.split.proofs.Balance.{both, swap-ends, swap-load, rule}
 use Rattle.split.proofs.Reading.{within-scratch}
 
-module _ (s : List ℕ) (k : ℕ) (g : Nets s k) (s₁ : List ℕ) (o : Oriented s s₁ k) where
-  pub nets-now : Nets s₁ k
+module _ (s : List ℕ) (k : ℕ) (g : NetsIn s k) (s₁ : List ℕ) (o : Oriented s s₁ k) where
+  pub nets-now : NetsIn s₁ k
   nets-now =
       record {
         long = omega (arith, g .long, o .kept .long);
@@ -41,7 +41,7 @@ module _ (s : List ℕ) (k : ℕ) (g : Nets s k) (s₁ : List ℕ) (o : Oriented
     abbrev x : ℕ → ℕ
     x = labelOf s₂
 
-    halves : Halves (firstEnd s) (secondEnd s k) x k
+    halves : HalvesNets (firstEnd s) (secondEnd s k) x k
     halves =
         record {
           binary = c .binary;

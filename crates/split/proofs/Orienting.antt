@@ -12,10 +12,10 @@ use Rattle.laws.specs.Matching.{Perfect, Alternates}
 use Rattle.laws.proofs.Part.{part-front, part-put, kept-put, kept-then, kept-above, kept-at-below}
 use Rattle.laws.proofs.Cases.{by-same, by-half}
 use Rattle.scratch.specs.Scratch.{region, endsFrom, matesFrom, flipFrom, labelsFrom}
-use Rattle.pair.specs.Pair.{fpgaCount, Near, count, Asked, Pairing}
+use Rattle.pair.specs.Pair.{fpgaCount, Near, count, ItemsIn, Pairing}
 use Rattle.pair.proofs.Counting.{near-same}
 use Rattle.walk.specs.Walk.{Matched, Alternated}
-use Rattle.split.specs.Split.{Nets, firstEnd, secondEnd, labelOf}
+use Rattle.split.specs.Split.{NetsIn, firstEnd, secondEnd, labelOf}
 use Rattle.split.specs.Stages.{Flipped, Directed, Oriented}
 use Rattle.split.proofs.Balance.{labelled}
 use Rattle.split.proofs.Reading.{asked-at, alternates-at, within-scratch}
@@ -29,7 +29,7 @@ flip-perfect f k h =
       back = by-half (λ i. at f (at f i) ≡ i) k (λ i q. ap (at f) (h .low i q) ∙ h .high i q) (λ j q. ap (at f) (h .high j q) ∙ h .low j q);
     }
 
-module _ (s : List ℕ) (k : ℕ) (g : Nets s k) (f : List ℕ) (fl : Flipped f k k) where
+module _ (s : List ℕ) (k : ℕ) (g : NetsIn s k) (f : List ℕ) (fl : Flipped f k k) where
   -- with the other ends written
   abbrev s₁ : List ℕ
   s₁ = put s flipFrom (flipFrom + (k + k) - flipFrom) f
@@ -40,7 +40,7 @@ module _ (s : List ℕ) (k : ℕ) (g : Nets s k) (f : List ℕ) (fl : Flipped f 
   ends-same : (i : ℕ) → i < region → getD s₁ i 0 ≡ getD s i 0
   ends-same i l = kept-at-below s s₁ flipFrom (k + k) k₁ i (omega arith)
 
-  pub ends-asked : Asked s₁ endsFrom matesFrom (k + k)
+  pub ends-asked : ItemsIn s₁ endsFrom matesFrom (k + k)
   ends-asked =
       asked-at s₁ endsFrom matesFrom (k + k) (omega arith) (omega arith) (omega arith) (omega (arith, k₁ .long))
       (λ i l. let e : endsFrom + i ≡ i = omega arith in rw (e, ends-same i (omega arith)) (g .known i l))

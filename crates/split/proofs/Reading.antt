@@ -10,10 +10,10 @@ use Rattle.laws.specs.Row.{at}
 use Rattle.laws.specs.Matching.{Perfect, Alternates}
 use Rattle.laws.proofs.Part.{part-at, kept-wider}
 use Rattle.scratch.specs.Scratch.{region, endsFrom, matesFrom, scratchLong}
-use Rattle.pair.specs.Pair.{fpgaCount, Asked}
+use Rattle.pair.specs.Pair.{fpgaCount, ItemsIn}
 
 pub asked-at : (s : List ℕ) (fpgas mates n : ℕ) → n ≤ region → n % 2 ≡ 0 → fpgas + n ≤ mates → mates + n ≤ length s
-    → ((i : ℕ) → i < n → getD s (fpgas + i) 0 < fpgaCount) → Asked s fpgas mates n
+    → ((i : ℕ) → i < n → getD s (fpgas + i) 0 < fpgaCount) → ItemsIn s fpgas mates n
 asked-at s fpgas mates n small even order fits h =
     record { items = record { small = small; even = even; known = λ i l. rw (part-at s fpgas n i l) (h i l) }; order = order; fits = fits }
 

@@ -32,7 +32,7 @@ pub record Shared (n l r : ℕ) : Type 0 where
   pub full : (w : ℕ) → n ≡ 4 * w → l ≡ r
 
 -- the labels halve the nets, and the ends at each FPGA
-pub record Halves (first second label : ℕ → ℕ) (k : ℕ) : Type 0 where
+pub record HalvesNets (first second label : ℕ → ℕ) (k : ℕ) : Type 0 where
   pub binary : (e : ℕ) → e < k → label e ≤ 1
   pub level : sum (is label 0) k ≡ sum (is label 1) k
   pub at-fpga : (v : ℕ) → v < fpgaCount → Shared (ends first second v k) (loadOn first second label v 0 k) (loadOn first second label v 1 k)
@@ -48,7 +48,7 @@ abbrev pub labelOf : List ℕ → ℕ → ℕ
 labelOf s e = getD s (labelsFrom + e) 0
 
 -- what is asked: an even number of nets, each end at an FPGA
-pub record Nets (s : List ℕ) (k : ℕ) : Type 0 where
+pub record NetsIn (s : List ℕ) (k : ℕ) : Type 0 where
   pub long : scratchLong ≤ length s
   pub small : k ≤ mostNets
   pub even : k % 2 ≡ 0
@@ -65,4 +65,4 @@ pub record Halved (s₀ s : List ℕ) (k : ℕ) : Type 0 where
   pub long : length s ≡ length s₀
   pub beyond : drop scratchLong s ≡ drop scratchLong s₀
   pub same-ends : (e : ℕ) → e < k → SameEnds s₀ s k e
-  pub halves : Halves (firstEnd s₀) (secondEnd s₀ k) (labelOf s) k
+  pub halves : HalvesNets (firstEnd s₀) (secondEnd s₀ k) (labelOf s) k

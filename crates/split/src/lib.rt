@@ -12,7 +12,7 @@ ghost use mathlib.Core.Path.{_≡_};
 ghost use Prim.Native.Nat.{_+_, _≤_, _<_};
 ghost use lib.ListN.{length};
 ghost use Rattle.scratch.specs.Scratch.{mostNets, scratchLong};
-ghost use Rattle.split.specs.Split.{Nets, Halved};
+ghost use Rattle.split.specs.Split.{NetsIn, Halved};
 ghost use Rattle.split.specs.Stages.{Flipped, swapped, Directed, Oriented, Coloured};
 use pair::pair;
 use scratch::ENDS;
@@ -60,7 +60,7 @@ fn direct(s: &mut [u16], k: usize)
 
 // Directs the nets so that as many leave each FPGA as enter it, but for one.
 fn orient(s: &mut [u16], k: usize)
-    requires { ⌜ Nets (now s) k ⌝ }
+    requires { ⌜ NetsIn (now s) k ⌝ }
     ensures { λ _. ⌜ Oriented (now (s .entry)) (now (s .exit)) k ⌝ }
 {
     let n = k + k;
@@ -72,7 +72,7 @@ fn orient(s: &mut [u16], k: usize)
 
 // Labels the nets so that those that leave an FPGA are split, and those that enter it.
 fn colour(s: &mut [u16], k: usize)
-    requires { ⌜ Nets (now s) k ⌝ }
+    requires { ⌜ NetsIn (now s) k ⌝ }
     ensures { λ _. ⌜ Coloured (now (s .entry)) (now (s .exit)) k ⌝ }
 {
     pair(s, ENDS, MATES, k);
@@ -83,7 +83,7 @@ fn colour(s: &mut [u16], k: usize)
 // The FPGAs of the k first ends stand at s[..k], those of the second ends at s[k..k + k]: each net's two ends may be swapped.
 // Net e gets its label at s[LABELS + e].
 pub fn split(s: &mut [u16], k: usize)
-    requires { ⌜ Nets (now s) k ⌝ }
+    requires { ⌜ NetsIn (now s) k ⌝ }
     ensures { λ _. ⌜ Halved (now (s .entry)) (now (s .exit)) k ⌝ }
 {
     orient(s, k);

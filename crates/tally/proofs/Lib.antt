@@ -1,4 +1,3 @@
 -- The laws that the proofs of the functions lean on.
 pub mod Walks
-pub mod Faults
 pub mod Crossbars

@@ -11,21 +11,21 @@ use Rattle.laws.specs.Row.{at}
 use Rattle.laws.specs.Count.{Counted}
 use Rattle.laws.proofs.Sum.{when-here, when-else, when-at-most}
 use Rattle.laws.proofs.Count.{bump, bump-at-most, Walked, walk-passes, walk-counts, walk-counts-two, walk-at-most}
-use Rattle.job.specs.declared.Board.{Board}
-use Rattle.job.specs.Job.{firstIn, secondIn}
-use Rattle.job.specs.Check.{Passed}
-use Rattle.board.specs.Job.{Job, jobIn}
+use Rattle.job.specs.declared.Head.{Head}
+use Rattle.job.specs.Job.{firstIn, secondIn, jobIn}
+use Rattle.job.specs.Check.{WellFormed}
+use Rattle.board.specs.Netlist.{Netlist}
 use Rattle.board.specs.Board.{endsAt, degree, load, total, InRange}
 use Rattle.board.proofs.Loads.{ends-at-most-two}
 
 -- what net i counts at FPGA v for the loads of crossbar x, and at crossbar x for the totals
-unfoldable pub loadBy : Job → (ℕ → ℕ) → ℕ → ℕ → ℕ → ℕ
+unfoldable pub loadBy : Netlist → (ℕ → ℕ) → ℕ → ℕ → ℕ → ℕ
 loadBy J a x v i = when (eqb (a i) x) (endsAt J v i)
 
 unfoldable pub totalBy : (ℕ → ℕ) → ℕ → ℕ → ℕ
 totalBy a x i = when (eqb (a i) x) 1
 
-load-by-at-most : (J : Job) (a : ℕ → ℕ) (x v i : ℕ) → loadBy J a x v i ≤ 2
+load-by-at-most : (J : Netlist) (a : ℕ → ℕ) (x v i : ℕ) → loadBy J a x v i ≤ 2
 unfolding loadBy
 load-by-at-most J a x v i = omega (arith, when-at-most (eqb (a i) x) (endsAt J v i), ends-at-most-two J v i)
 
@@ -38,7 +38,7 @@ module _ (g : ℕ → ℕ → ℕ) (most : (u j : ℕ) → g u j ≤ 2) {l : Lis
   fits-twice = omega (arith, walk-at-most g 256 i s 2 most w lw, bump-at-most l v w (omega (arith, s .long)))
 
 -- net i of a checked job, between FPGAs v and w
-module _ (job : List ℕ) (b : Board) (p : Passed job b) (i v w : ℕ) (l : i < b .n) (ev : v ≡ firstIn job i) (ew : w ≡ secondIn job i) where
+module _ (job : List ℕ) (h : Head) (p : WellFormed job h) (i v w : ℕ) (l : i < h .n) (ev : v ≡ firstIn job i) (ew : w ≡ secondIn job i) where
   pub ends-low : (v < 256) × (w < 256)
   ends-low = let j = p .nets i l in (omega (arith, j .first-in, p .ranged .f-high), omega (arith, j .second-in, p .ranged .f-high))
 
@@ -66,7 +66,7 @@ module _ (job : List ℕ) (b : Board) (p : Passed job b) (i v w : ℕ) (l : i < 
     unfolding loadBy
     loads-next e = walk-counts-two (loadBy (jobIn job) a x) 256 i s v w (ends-low .0) (ends-low .1) (λ u _. when-here (a i) (endsAt (jobIn job) u i) x e ∙ both u)
 
-module _ (J : Job) {count : List ℕ} (i : ℕ) where
+module _ (J : Netlist) {count : List ℕ} (i : ℕ) where
   pub degrees-all : i ≡ J .n → Walked (endsAt J) 256 count i → Counted count 256 (degree J)
   unfolding degree
   degrees-all e s = rw e at s
@@ -81,7 +81,7 @@ module _ (J : Job) {count : List ℕ} (i : ℕ) where
     loads-all e = rw e at s
 
 -- the ends of a checked net at FPGA v: at its first, or not there and as the second has it
-module _ (job : List ℕ) (b : Board) (p : Passed job b) (v i : ℕ) (l : i < b .n) where
+module _ (job : List ℕ) (h : Head) (p : WellFormed job h) (v i : ℕ) (l : i < h .n) where
   pub ends-first : v ≡ firstIn job i → endsAt (jobIn job) v i ≡ 1
   unfolding endsAt
   ends-first e = omega (arith, when-here (firstIn job i) 1 v (sym e), when-else (secondIn job i) 1 v (λ q. p .nets i l .apart (sym e ∙ sym q)))
@@ -91,7 +91,7 @@ module _ (job : List ℕ) (b : Board) (p : Passed job b) (v i : ℕ) (l : i < b 
   ends-second ne = omega (arith, when-else (firstIn job i) 1 v ne)
 
 -- the loads of FPGA v at all crossbars
-module _ (J : Job) (a : ℕ → ℕ) (v : ℕ) {loads : List ℕ} (i : ℕ) (s : Walked (λ x. loadBy J a x v) 128 loads i) where
+module _ (J : Netlist) (a : ℕ → ℕ) (v : ℕ) {loads : List ℕ} (i : ℕ) (s : Walked (λ x. loadBy J a x v) 128 loads i) where
   pub own-passes : endsAt J v i ≡ 0 → Walked (λ x. loadBy J a x v) 128 loads (i + 1)
   unfolding loadBy
   own-passes e = walk-passes (λ x. loadBy J a x v) 128 i s (λ x _. omega (arith, when-at-most (eqb (a i) x) (endsAt J v i)))
@@ -109,8 +109,8 @@ module _ (J : Job) (a : ℕ → ℕ) (v : ℕ) {loads : List ℕ} (i : ℕ) (s :
   own-all e = rw e at s
 
 -- the crossbar of a net in range is one of the 128
-pub crossbar-low : (job : List ℕ) (b : Board) → Passed job b → (a : ℕ → ℕ) → InRange (jobIn job) a → (i : ℕ) → i < b .n → (x : ℕ) → x ≡ a i → x < 128
-crossbar-low job b p a h i l x e = omega (arith, h i (omega (arith, p .n)), p .c, p .ranged .c-high)
+pub crossbar-low : (job : List ℕ) (h : Head) → WellFormed job h → (a : ℕ → ℕ) → InRange (jobIn job) a → (i : ℕ) → i < h .n → (x : ℕ) → x ≡ a i → x < 128
+crossbar-low job h p a q i l x e = omega (arith, q i (omega (arith, p .n)), p .c, p .ranged .c-high)
 
 module _ (a : ℕ → ℕ) {count : List ℕ} (i x : ℕ) (e : x ≡ a i) (h : x < 128) (s : Walked (totalBy a) 128 count i) where
   pub totals-fit : i < 4096 → at count x + 1 < 65536
@@ -121,6 +121,6 @@ module _ (a : ℕ → ℕ) {count : List ℕ} (i x : ℕ) (e : x ≡ a i) (h : x
   unfolding totalBy
   totals-next = walk-counts (totalBy a) 128 i s x h (λ u _. ap (λ (k : ℕ). when (eqb k u) 1) (sym e))
 
-pub totals-all : (a : ℕ → ℕ) {count : List ℕ} (i : ℕ) → Walked (totalBy a) 128 count i → (J : Job) → J .n ≡ i → Counted count 128 (total J a)
+pub totals-all : (a : ℕ → ℕ) {count : List ℕ} (i : ℕ) → Walked (totalBy a) 128 count i → (J : Netlist) → J .n ≡ i → Counted count 128 (total J a)
 unfolding total totalBy
 totals-all a i s J e = rw (← e) at s

@@ -5,27 +5,28 @@ ghost use lib.ListN.{length};
 ghost use Rattle.laws.specs.Sum.{when};
 ghost use Rattle.laws.specs.Row.{at};
 ghost use Rattle.laws.specs.Count.{Counted};
-ghost use Rattle.job.specs.Check.{Passed};
-ghost use Rattle.board.specs.Job.{Job, jobIn};
+ghost use Rattle.job.specs.Check.{WellFormed};
+ghost use Rattle.board.specs.Netlist.{Netlist};
+ghost use Rattle.job.specs.Job.{jobIn};
 ghost use Rattle.board.specs.Board.{endsAt, degree, load, total, InRange};
-use job::Board;
+use job::Head;
 use job::read::first_end;
 use job::read::second_end;
 use words::number::wide;
 
 // The loads of all FPGAs at crossbar x.
-pub fn loads_on(job: &[u8], b: Board, a: &[u16], x: usize) -> [u16; 256]
-    requires { ⌜ (Passed (now job) b) × (b .n ≤ length (now a)) ⌝ }
-    ensures { λ r. ⌜ Counted r 256 (λ v. load (jobIn (now (job .entry))) (at (now (a .entry))) v x) ⌝ }
+pub fn loads_on(job: &[u8], head: Head, plan: &[u16], x: usize) -> [u16; 256]
+    requires { ⌜ (WellFormed (now job) head) × (head .n ≤ length (now plan)) ⌝ }
+    ensures { λ r. ⌜ Counted r 256 (λ v. load (jobIn (now (job .entry))) (at (now (plan .entry))) v x) ⌝ }
 {
     let mut count = [0u16; 256];
     let mut i: usize = 0;
-    while i < b.n {
+    while i < head.n {
         let net = i;
         i += 1;
-        if wide(a[net]) == x {
-            let v = first_end(job, b.start, net);
-            let w = second_end(job, b.start, net);
+        if wide(plan[net]) == x {
+            let v = first_end(job, head.start, net);
+            let w = second_end(job, head.start, net);
             count[v] += 1;
             count[w] += 1;
         }
@@ -34,29 +35,29 @@ pub fn loads_on(job: &[u8], b: Board, a: &[u16], x: usize) -> [u16; 256]
 }
 
 // Net i ends at FPGA v; at one end only, since a checked net has two different ends.
-fn ends_at(job: &[u8], b: Board, v: usize, i: usize) -> bool
-    requires { ⌜ (Passed (now job) b) × (i < b .n) ⌝ }
+fn ends_at(job: &[u8], head: Head, v: usize, i: usize) -> bool
+    requires { ⌜ (WellFormed (now job) head) × (i < head .n) ⌝ }
     ensures { λ r. ⌜ endsAt (jobIn (now (job .entry))) v i ≡ when r 1 ⌝ }
 {
-    if first_end(job, b.start, i) == v {
+    if first_end(job, head.start, i) == v {
         return true;
     }
-    second_end(job, b.start, i) == v
+    second_end(job, head.start, i) == v
 }
 
 // The loads of FPGA v at all crossbars.
-pub fn loads_of(job: &[u8], b: Board, a: &[u16], v: usize) -> [u16; 128]
-    requires { ⌜ (Passed (now job) b) × (b .n ≤ length (now a)) ⌝ }
-    requires { ⌜ InRange (jobIn (now job)) (at (now a)) ⌝ }
-    ensures { λ r. ⌜ Counted r 128 (load (jobIn (now (job .entry))) (at (now (a .entry))) v) ⌝ }
+pub fn loads_of(job: &[u8], head: Head, plan: &[u16], v: usize) -> [u16; 128]
+    requires { ⌜ (WellFormed (now job) head) × (head .n ≤ length (now plan)) ⌝ }
+    requires { ⌜ InRange (jobIn (now job)) (at (now plan)) ⌝ }
+    ensures { λ r. ⌜ Counted r 128 (load (jobIn (now (job .entry))) (at (now (plan .entry))) v) ⌝ }
 {
     let mut loads = [0u16; 128];
     let mut i: usize = 0;
-    while i < b.n {
+    while i < head.n {
         let net = i;
         i += 1;
-        if ends_at(job, b, v, net) {
-            let x = wide(a[net]);
+        if ends_at(job, head, v, net) {
+            let x = wide(plan[net]);
             loads[x] += 1;
         }
     }
@@ -64,15 +65,15 @@ pub fn loads_of(job: &[u8], b: Board, a: &[u16], v: usize) -> [u16; 128]
 }
 
 // The degrees of all FPGAs.
-pub fn degrees(job: &[u8], b: Board) -> [u16; 256]
-    requires { ⌜ Passed (now job) b ⌝ }
+pub fn degrees(job: &[u8], head: Head) -> [u16; 256]
+    requires { ⌜ WellFormed (now job) head ⌝ }
     ensures { λ r. ⌜ Counted r 256 (degree (jobIn (now (job .entry)))) ⌝ }
 {
     let mut ends = [0u16; 256];
     let mut i: usize = 0;
-    while i < b.n {
-        let v = first_end(job, b.start, i);
-        let w = second_end(job, b.start, i);
+    while i < head.n {
+        let v = first_end(job, head.start, i);
+        let w = second_end(job, head.start, i);
         ends[v] += 1;
         ends[w] += 1;
         i += 1;
@@ -81,15 +82,15 @@ pub fn degrees(job: &[u8], b: Board) -> [u16; 256]
 }
 
 // The totals of all crossbars, of any job with n nets.
-pub fn totals_of(a: &[u16], n: usize) -> [u16; 128]
-    requires { ⌜ (n ≤ 4096) × (n ≤ length (now a)) ⌝ }
-    requires { ⌜ ((i : ℕ) → i < n → at (now a) i < 128) ⌝ }
-    ensures { λ r. ⌜ ((J : Job) → J .n ≡ n → Counted r 128 (total J (at (now (a .entry))))) ⌝ }
+pub fn totals_of(plan: &[u16], n: usize) -> [u16; 128]
+    requires { ⌜ (n ≤ 4096) × (n ≤ length (now plan)) ⌝ }
+    requires { ⌜ ((i : ℕ) → i < n → at (now plan) i < 128) ⌝ }
+    ensures { λ r. ⌜ ((J : Netlist) → J .n ≡ n → Counted r 128 (total J (at (now (plan .entry))))) ⌝ }
 {
     let mut nets = [0u16; 128];
     let mut i: usize = 0;
     while i < n {
-        let x = wide(a[i]);
+        let x = wide(plan[i]);
         nets[x] += 1;
         i += 1;
     }

@@ -1,4 +1,3 @@
-// The board's arithmetic, computed: counters by FPGA and by crossbar, and the checks and measures made of them.
-pub mod check;
+// The board's arithmetic, computed: counters by FPGA and by crossbar, and the measures made of them.
 pub mod count;
 pub mod measure;

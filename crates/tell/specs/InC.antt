@@ -2,20 +2,22 @@
 use mathlib.Core.Path.{_≡_}
 use mathlib.Core.Bool.{cond}
 use mathlib.Core.List.{List, [], _∷_}
-use Prim.Native.Nat.{ℕ, _*_}
+use Prim.Native.Nat.{ℕ}
 use Rattle.words.specs.declared.Verdict.{Verdict}
 use Rattle.words.specs.declared.Verdict.the-variants as verdict
 use Rattle.words.specs.Verdict.{numberOf, pOf, qOf}
-use Rattle.job.specs.declared.Board.{Board}
+use Rattle.job.specs.declared.Checked.{Checked}
 use Rattle.job.specs.declared.NetEnds.{NetEnds}
 use Rattle.job.specs.declared.NetEnds.the-variants.{Ends, NoNet}
+use Rattle.job.specs.Read.{sectionFrom, sectionLong}
+use Rattle.reader.specs.declared.Numbers.{Numbers}
 use Rattle.spare.specs.declared.Room.{Room}
 use Rattle.spare.specs.declared.Room.the-variants as room
 use Rattle.round.specs.declared.Round.{Round}
 use Rattle.round.specs.declared.Round.the-variants as round
 use Rattle.finish.specs.declared.Finish.{Finish}
 use Rattle.finish.specs.declared.Finish.the-variants as finish
-use Rattle.sheet.specs.declared.Fault.{Fault}
+use Rattle.evidence.specs.declared.Fault.{Fault}
 
 abbrev pub four : ℕ → ℕ → ℕ → ℕ → List ℕ
 four a b c d = a ∷ b ∷ c ∷ d ∷ []
@@ -29,8 +31,8 @@ abbrev pub verdictInC : Verdict → InC
 verdictInC v = (numberOf v, four (pOf v) (qOf v) 0 0)
 
 -- f, c, m and n
-abbrev pub numbersInC : Board → List ℕ
-numbersInC b = four (b .f) (b .c) (b .m) (b .n)
+abbrev pub numbersInC : Numbers → List ℕ
+numbersInC h = four (h .f .0) (h .c .0) (h .m) (h .n .0)
 
 -- 1 and the two FPGAs; or 0
 abbrev pub netInC : NetEnds → InC
@@ -38,8 +40,8 @@ netInC (Ends v w) = (1, four (v .0) (w .0) 0 0)
 netInC NoNet = (0, four 0 0 0 0)
 
 -- the first byte of the nets, and how many bytes they are
-abbrev pub sectionInC : Board → List ℕ
-sectionInC b = four (b .start) (4 * b .n) 0 0
+abbrev pub sectionInC : Checked → List ℕ
+sectionInC checked = four (sectionFrom checked) (sectionLong checked) 0 0
 
 -- 0 and four zeros; or 1, the FPGA and the crossbars A and B
 abbrev pub roundInC : Round → InC

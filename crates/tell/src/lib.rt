@@ -1,12 +1,14 @@
 // How an answer is told in C: a number that is returned, and four numbers in the caller's `answer`.
 ghost use mathlib.Core.Path.{_≡_};
 ghost use Prim.Native.Nat.{_≤_};
+ghost use Rattle.job.specs.Read.{sectionLong};
 ghost use Rattle.tell.specs.InC.{four, verdictInC, numbersInC, netInC, sectionInC, roundInC, finishInC, faultInC, roomInC};
+use evidence::Fault;
 use finish::Finish;
-use job::Board;
+use job::Checked;
 use job::NetEnds;
+use reader::Numbers;
 use round::Round;
-use sheet::Fault;
 use spare::Room;
 use words::Verdict;
 use words::number::wide;
@@ -27,17 +29,20 @@ pub fn tell_verdict(v: Verdict, answer: &mut [u64; 4]) -> u16
     number_of(v)
 }
 
-pub fn tell_numbers(b: Board, answer: &mut [u64; 4])
-    ensures { λ r. ⌜ now (answer .exit) ≡ numbersInC b ⌝ }
+pub fn tell_numbers(h: Numbers, answer: &mut [u64; 4])
+    ensures { λ r. ⌜ now (answer .exit) ≡ numbersInC h ⌝ }
 {
-    put(answer, b.f, b.c, b.m, b.n);
+    put(answer, wide(h.f.0), wide(h.c.0), wide(h.m), wide(h.n.0));
 }
 
-pub fn tell_section(b: Board, answer: &mut [u64; 4])
-    requires { ⌜ b .n ≤ 4096 ⌝ }
-    ensures { λ r. ⌜ now (answer .exit) ≡ sectionInC b ⌝ }
+pub fn tell_section(checked: Checked, answer: &mut [u64; 4])
+    requires { ⌜ sectionLong checked ≤ 16384 ⌝ }
+    ensures { λ r. ⌜ now (answer .exit) ≡ sectionInC checked ⌝ }
 {
-    put(answer, b.start, 4 * b.n, 0, 0);
+    match checked {
+        Checked::Refused(_) => put(answer, 0, 0, 0, 0),
+        Checked::Passed(head) => put(answer, head.start, 4 * head.n, 0, 0),
+    }
 }
 
 pub fn tell_net(ends: NetEnds, answer: &mut [u64; 4]) -> u16

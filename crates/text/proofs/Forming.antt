@@ -1,12 +1,10 @@
 -- Each form, put piece by piece.
 -- Assumes nothing.
-use mathlib.Core.Path.{_≡_, _∙_}
+use mathlib.Core.Path.{_≡_}
 use mathlib.Core.List.{List, [], _∷_, _++_}
 use Prim.Native.Nat.{ℕ, _+_, _/_, _%_, _≤_, _<_}
-use Rattle.words.specs.declared.Verdict.{Verdict}
-use Rattle.words.specs.Verdict.{numberOf, pOf, qOf}
 use Rattle.text.specs.Text.{Text, puts}
-use Rattle.text.specs.Forms.{decimal, spaced, allSpaced, line, verdictText}
+use Rattle.text.specs.Forms.{decimal, spaced, allSpaced, line}
 use Rattle.text.proofs.Putting.{behind}
 use Rattle.text.proofs.Decimals.{decimal-small, decimal-more}
 
@@ -28,9 +26,3 @@ module _ (t u v w : Text) where
   pub whole-line : (s ns : List ℕ) → u ≡ puts t s → v ≡ puts u (allSpaced ns) → w ≡ puts v (10 ∷ []) → w ≡ puts t (line s ns)
   unfolding line
   whole-line s ns p q r = behind t u w s (allSpaced ns ++ (10 ∷ [])) p (behind u v w (allSpaced ns) (10 ∷ []) q r)
-
-  pub three-numbers : (x : Verdict) (h k i j : ℕ) → h ≡ numberOf x → (k ≡ h) × (k < 65536) → u ≡ puts t (spaced k)
-      → i ≡ pOf x → v ≡ puts u (spaced i) → j ≡ qOf x → w ≡ puts v (spaced j) → w ≡ puts t (verdictText x)
-  three-numbers x h k i j e a p b q d r =
-      let g : k ≡ numberOf x = a .0 ∙ e in
-      rw (← g, ← b, ← d) (behind t u w (spaced k) (spaced i ++ spaced j) p (behind u v w (spaced i) (spaced j) q r))

@@ -1,15 +1,12 @@
 -- How long a text is.
 -- Assumes nothing.
-use mathlib.Core.Path.{_≡_, _∙_}
 use mathlib.Core.List.{List}
 use Prim.Native.Nat.{ℕ, zero, suc, _+_, _*_, _≤_, _<_}
 use native.Mathlib.Omega.{arith}
 use lib.ListN.{length, length-append}
 use Rattle.laws.specs.Row.{at}
-use Rattle.words.specs.declared.Verdict.{Verdict}
-use Rattle.words.specs.Verdict.{numberOf, pOf, qOf}
 use Rattle.text.specs.Text.{each}
-use Rattle.text.specs.Forms.{spaced, line, verdictText}
+use Rattle.text.specs.Forms.{spaced, line}
 use Rattle.text.proofs.Decimals.{decimal-short}
 
 -- numbers below 10,000 have at most four digits, and numbers of 64 bits at most twenty
@@ -20,13 +17,6 @@ spaced-short n h = omega (arith, decimal-short 3 n h)
 pub spaced-any : (n : ℕ) → n < 18446744073709551616 → length (spaced n) ≤ 21
 unfolding spaced
 spaced-any n h = omega (arith, decimal-short 19 n (omega arith))
-
--- three of them
-pub verdict-short : (x : Verdict) (h k i j : ℕ) → h ≡ numberOf x → (k ≡ h) × (k < 65536) → i ≡ pOf x → i < 18446744073709551616 → j ≡ qOf x → j < 18446744073709551616
-    → length (verdictText x) ≤ 63
-verdict-short x h k i j e a b p d q =
-    let g : k ≡ numberOf x = a .0 ∙ e in
-    rw (← g, ← b, ← d) (simp length-append (omega (arith, spaced-any k (omega arith), spaced-any i p, spaced-any j q)))
 
 pub each-short : (f : ℕ → List ℕ) (k n : ℕ) → ((i : ℕ) → i < n → length (f i) ≤ k) → length (each f n) ≤ k * n
 unfolding each

@@ -5,8 +5,6 @@ use Prim.Native.Nat.{ℕ, zero, suc, _+_, _/_, _%_}
 use lib.Dec.{ltb}
 use lib.ListN.{length}
 use Rattle.laws.specs.Row.{at}
-use Rattle.words.specs.declared.Verdict.{Verdict}
-use Rattle.words.specs.Verdict.{numberOf, pOf, qOf}
 use Rattle.text.specs.Text.{each}
 
 -- n in decimal, in k + 1 digits or fewer
@@ -28,7 +26,3 @@ allSpaced ns = each (λ i. spaced (at ns i)) (length ns)
 -- a line: a word and its numbers
 unfoldable pub line : List ℕ → List ℕ → List ℕ
 line word ns = word ++ (allSpaced ns ++ (10 ∷ []))
-
--- a verdict in numbers: its own, p and q
-abbrev pub verdictText : Verdict → List ℕ
-verdictText v = spaced (numberOf v) ++ (spaced (pOf v) ++ spaced (qOf v))

@@ -1,3 +1,3 @@
--- Text in lent memory, and how numbers, lines and verdicts are written.
+-- Text in lent memory, and how numbers and lines are written.
 pub mod Text
 pub mod Forms

@@ -1,12 +1,9 @@
 // Text formed in lent memory: `at` is where the text so far ends, the answer is where it ends then. What has no room is left out.
 ghost use mathlib.Core.Path.{_≡_};
-ghost use mathlib.Core.List.{List, [], _∷_};
-ghost use Prim.Native.Nat.{_≤_};
-ghost use lib.ListN.{length, take};
+ghost use mathlib.Core.List.{[], _∷_};
+ghost use lib.ListN.{take};
 ghost use Rattle.text.specs.Text.{upTo, puts};
-ghost use Rattle.text.specs.Forms.{decimal, spaced, allSpaced, verdictText};
-ghost use Rattle.text.specs.Forms.{line as lineText};
-use words::Verdict;
+ghost use Rattle.text.specs.Forms.{decimal, spaced, allSpaced, line as lineText};
 use words::number::wide;
 
 fn byte(room: &mut [u8], at: usize, b: u8) -> usize
@@ -65,16 +62,6 @@ pub fn line(room: &mut [u8], at: usize, letters: &[u8], list: &[u16]) -> usize
     let named = word(room, at, letters);
     let told = numbers(room, named, list);
     byte(room, told, 10)
-}
-
-// A verdict as its number, p and q.
-pub fn verdict(room: &mut [u8], at: usize, v: Verdict) -> usize
-    ensures { λ r. ⌜ upTo (now (room .exit)) r ≡ puts (upTo (now (room .entry)) at) (verdictText v) ⌝ }
-    ensures { λ r. ⌜ length (verdictText v) ≤ 63 ⌝ }
-{
-    let first = number(room, at, wide(words::number_of(v)));
-    let second = number(room, first, words::p_of(v));
-    number(room, second, words::q_of(v))
 }
 
 // The text that ends at `at`.

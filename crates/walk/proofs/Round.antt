@@ -5,11 +5,11 @@ use Prim.Native.Nat.{ℕ, _+_, _<_}
 use native.Mathlib.Omega.{arith}
 use Rattle.laws.specs.Matching.{Perfect}
 use Rattle.laws.proofs.Cases.{by-same}
-use Rattle.walk.specs.Going.{noLabel, Alt, State, Head, first, later, Walking}
+use Rattle.walk.specs.Going.{noLabel, Alternating, State, WalkAt, first, later, Walking}
 use Rattle.walk.proofs.Two.{Two}
 
 -- where a label is still to come, so is its partner's
-pub blank-partner : (n : ℕ) (P X : ℕ → ℕ) → Perfect n P → Alt n P X → (t : ℕ) → t < n → X t ≡ noLabel → X (P t) ≡ noLabel
+pub blank-partner : (n : ℕ) (P X : ℕ → ℕ) → Perfect n P → Alternating n P X → (t : ℕ) → t < n → X t ≡ noLabel → X (P t) ≡ noLabel
 blank-partner n P X m a t h b =
     by-same (X (P t)) noLabel (λ e. e)
     (λ nb. let z : ⊥ = omega (arith, a .other (P t) (m .below t h) nb, ap X (m .back t h)) in absurd z)
@@ -25,15 +25,15 @@ module _ (n : ℕ) (P Q X : ℕ → ℕ) (mp : Perfect n P) (mq : Perfect n Q) (
       }
 
   -- what the head tells at a blank t
-  from-s : (t : ℕ) → Head Q X s t → (t ≡ s → ⊥) → X (Q t) ≡ 1
+  from-s : (t : ℕ) → WalkAt Q X s t → (t ≡ s → ⊥) → X (Q t) ≡ 1
   from-s t (first e a b) ne = absurd (ne e)
   from-s t (later a b c) ne = b
 
-  by-one : (t : ℕ) → Head Q X s t → (X (Q t) ≡ noLabel → ⊥) → X (Q t) ≡ 1
+  by-one : (t : ℕ) → WalkAt Q X s t → (X (Q t) ≡ noLabel → ⊥) → X (Q t) ≡ 1
   by-one t (first e a b) nb = absurd (nb (ap (λ (k : ℕ). X (Q k)) e ∙ b))
   by-one t (later a b c) nb = b
 
-  s-zero : (t : ℕ) → Head Q X s t → (t ≡ s → ⊥) → X s ≡ 0
+  s-zero : (t : ℕ) → WalkAt Q X s t → (t ≡ s → ⊥) → X s ≡ 0
   s-zero t (first e a b) ne = absurd (ne e)
   s-zero t (later a b c) ne = a
 
@@ -122,21 +122,21 @@ module _ (n : ℕ) (P Q X : ℕ → ℕ) (mp : Perfect n P) (mq : Perfect n Q) (
     at-s : t ≡ s
     at-s = ends (w .head)
       where
-        ends : Head Q X s t → t ≡ s
+        ends : WalkAt Q X s t → t ≡ s
         ends (first e a b) = e
         ends (later a b c) = c nb
 
     s-is : X s ≡ 0
     s-is = is (w .head)
       where
-        is : Head Q X s t → X s ≡ 0
+        is : WalkAt Q X s t → X s ≡ 0
         is (first e a b) = absurd (nb (ap X e ∙ a))
         is (later a b c) = a
 
     q-is : X (Q t) ≡ 1
     q-is = is (w .head)
       where
-        is : Head Q X s t → X (Q t) ≡ 1
+        is : WalkAt Q X s t → X (Q t) ≡ 1
         is (first e a b) = absurd (nb (ap X e ∙ a))
         is (later a b c) = b
 

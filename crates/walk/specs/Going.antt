@@ -13,29 +13,29 @@ abbrev pub noLabel : ℕ
 noLabel = 2
 
 -- wherever X has a label it is 0 or 1, and its partner's is the other
-pub record Alt (n : ℕ) (P X : ℕ → ℕ) : Type 0 where
+pub record Alternating (n : ℕ) (P X : ℕ → ℕ) : Type 0 where
   pub other : (g : ℕ) → g < n → (X g ≡ noLabel → ⊥) → X (P g) + X g ≡ 1
 
 -- whole cycles are labelled
 pub record State (n : ℕ) (P Q X : ℕ → ℕ) : Type 0 where
-  pub alt-p : Alt n P X
-  pub alt-q : Alt n Q X
+  pub alt-p : Alternating n P X
+  pub alt-q : Alternating n Q X
 
 -- what X₀ has labelled, X has
 pub record Grown (X₀ X : ℕ → ℕ) : Type 0 where
   pub grown : (g : ℕ) → X g ≡ noLabel → X₀ g ≡ noLabel
 
 -- the walk from s stands at t: at its first item, or with s labelled 0 and the partner that it came by labelled 1
-pub data Head (Q X : ℕ → ℕ) (s t : ℕ) : Type 0 where
-  first : t ≡ s → X s ≡ noLabel → X (Q s) ≡ noLabel → Head Q X s t
-  later : X s ≡ 0 → X (Q t) ≡ 1 → ((X t ≡ noLabel → ⊥) → t ≡ s) → Head Q X s t
+pub data WalkAt (Q X : ℕ → ℕ) (s t : ℕ) : Type 0 where
+  first : t ≡ s → X s ≡ noLabel → X (Q s) ≡ noLabel → WalkAt Q X s t
+  later : X s ≡ 0 → X (Q t) ≡ 1 → ((X t ≡ noLabel → ⊥) → t ≡ s) → WalkAt Q X s t
 
 -- but for s and the partner that it came by, the labels alternate on Q too
 pub record Walking (n : ℕ) (P Q X : ℕ → ℕ) (s t : ℕ) : Type 0 where
-  pub alt-p : Alt n P X
+  pub alt-p : Alternating n P X
   pub alt-q : (g : ℕ) → g < n → (g ≡ s → ⊥) → (g ≡ Q t → ⊥) → (X g ≡ noLabel → ⊥) → X (Q g) + X g ≡ 1
   pub t-in : t < n
-  pub head : Head Q X s t
+  pub head : WalkAt Q X s t
 
 -- a walk from a stands at t
 pub record Standing (s : List ℕ) (p q x n a t : ℕ) : Type 0 where

@@ -1,7 +1,7 @@
 -- One test of the numbers 0, 1, .., n - 1 in order refuses at the lowest that it holds of.
 -- Assumes nothing.
 use mathlib.Core.Path.{_≡_, sym, _∙_}
-use mathlib.Core.Bool.{Bool, true, false}
+use mathlib.Core.Bool.{Bool, false}
 use mathlib.Core.Logic.{dite}
 use Prim.Native.Nat.{ℕ, _<_}
 use native.Mathlib.Decide.{decLt}
@@ -11,7 +11,7 @@ use Rattle.laws.specs.Lowest.{firstWhere, somewhere}
 use Rattle.laws.proofs.FirstWhere.{first-where-at-most, first-where-before, first-where-holds}
 use Rattle.words.specs.declared.Place.{Place}
 use Rattle.words.specs.declared.Verdict.the-variants.{Done}
-use Rattle.words.specs.Verdict.{refuse, refuseIf, firstRefusal}
+use Rattle.words.specs.Verdict.{refuseIf, firstRefusal}
 use Rattle.words.proofs.Order.{first-stops, first-all, refuses, passes}
 
 module _ (t : ℕ → Bool) (k : ℕ) (place : ℕ → Place) where

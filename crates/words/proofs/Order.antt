@@ -1,6 +1,6 @@
 -- The first refusal in a fixed order.
 -- Assumes nothing.
-use mathlib.Core.Path.{_≡_, refl, ap, sym, _∙_}
+use mathlib.Core.Path.{_≡_, refl, _∙_}
 use mathlib.Core.Bool.{Bool, true, false}
 use mathlib.Core.Logic.{_↔_, _⊎_, ⊎-elim}
 use Prim.Native.Nat.{ℕ, zero, suc, _+_, _≤_, _<_}
@@ -28,15 +28,6 @@ then-second (Refused r) w h = cc
 pub then-done : (v w : Verdict) → v ≡ Done → w ≡ Done → (v then w) ≡ Done
 unfolding _then_
 then-done v w p q = rw (p, q)
-
-pub then-assoc : (u v w : Verdict) → ((u then v) then w) ≡ (u then (v then w))
-unfolding _then_
-then-assoc Done v w = refl
-then-assoc (Refused r) v w = refl
-
-pub done-then : (v : Verdict) → (Done then v) ≡ v
-unfolding _then_
-done-then v = refl
 
 pub then-refused : (v w : Verdict) (r : Refusal) → v ≡ Refused r → (v then w) ≡ Refused r
 unfolding _then_

@@ -1,10 +1,10 @@
 -- The parts that a call hands back are stretches of what it was lent.
 -- Assumes nothing.
-use mathlib.Core.Path.{_≡_, refl, ap, sym, _∙_}
+use mathlib.Core.Path.{_≡_, refl, ap, sym}
 use mathlib.Core.List.{List}
-use Prim.Native.Nat.{ℕ, _+_, _-_}
+use Prim.Native.Nat.{ℕ, _-_}
 use native.Mathlib.Nat.{zero-add}
-use lib.ListN.{length, take, drop}
+use lib.ListN.{take, drop}
 use denote.Ref.{RefT}
 use borrow.Rule.Slice.Shared.{byByte}
 use borrow.Rule.Slice.PartAt.{slPart}

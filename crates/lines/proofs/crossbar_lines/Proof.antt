@@ -3,7 +3,7 @@ use Rattle.text.specs.Text.{upTo, puts, each}
 use Rattle.text.specs.Forms.{line}
 use Rattle.text.proofs.Putting.{each-none, each-next, each-all}
 use mathlib.Core.List.{[], _∷_}
-use Rattle.lines.specs.Listing.{crossbarWord}
+use Rattle.lines.specs.Lines.{crossbarWord}
 use borrow.Author.Needs.{needs}
 use native.Mathlib.Omega.{arith}
 use mathlib.Core.Path.{_≡_, refl}

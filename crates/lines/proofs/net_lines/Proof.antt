@@ -1,8 +1,8 @@
 -- `lines::net_lines` meets its contract.
 use Rattle.text.specs.Text.{upTo, puts, each}
 use Rattle.text.proofs.Putting.{each-none, each-next, each-all}
-use Rattle.board.specs.Job.{jobIn}
-use Rattle.lines.specs.Listing.{netLine}
+use Rattle.job.specs.Job.{jobIn}
+use Rattle.lines.specs.Lines.{netLine}
 use borrow.Author.Needs.{needs}
 use native.Mathlib.Omega.{arith}
 use mathlib.Core.Path.{_≡_, refl}
@@ -13,12 +13,12 @@ use Rattle.laws.specs.Row as row
 use Rattle.lines.proofs.net_lines.Tie as tie
 
 abbrev Inv-loop : tie.InvT-loop
-Inv-loop room₀ at job b plan end₀ i₀ room end i =
-    (i ≤ b .n) × (length room ≡ length room₀)
+Inv-loop room₀ at job head plan end₀ i₀ room end i =
+    (i ≤ head .n) × (length room ≡ length room₀)
     × (upTo room end ≡ puts (upTo room₀ at) (each (netLine (jobIn job) (row.at plan)) i))
 
 abbrev μ-loop : tie.MeasureT-loop
-μ-loop room₀ at job b plan end₀ i₀ room end i = b .n - i
+μ-loop room₀ at job head plan end₀ i₀ room end i = head .n - i
 
 loop-holds : tie.Need-loop-holds Inv-loop μ-loop
 loop-holds c = (search needs, refl, each-none _ _)
@@ -45,7 +45,7 @@ same-length : tie.Need-same-length Inv-loop μ-loop
 same-length c = search needs
 
 returns : tie.Need-returns Inv-loop μ-loop
-returns c = let l = c .before .before .loop in each-all _ _ _ (l .i) (c .before .before .before .before .before .before .args .b .n) (omega arith) (l .inv .2)
+returns c = let l = c .before .before .loop in each-all _ _ _ (l .i) (c .before .before .before .before .before .before .args .head .n) (omega arith) (l .inv .2)
 
 pub net-lines-spec : {M : Type 1} → statement M
 net-lines-spec =

@@ -11,8 +11,8 @@ slice-aggregate-word c = search needs
 word-requires : tie.Need-word-requires
 word-requires c κs = search needs
 
-verdict-requires : tie.Need-verdict-requires
-verdict-requires c κs = search needs
+verdict-text-requires : tie.Need-verdict-text-requires
+verdict-text-requires c κs = search needs
 
 slice-aggregate-word-2 : tie.Need-slice-aggregate-word-2
 slice-aggregate-word-2 c = search needs
@@ -27,7 +27,7 @@ returns : tie.Need-returns
 returns c =
     let w = c .before .before in
     let v = w .before .before .before .before .before in
-    (refusal-told _ _ _ _ _ (v .before .before .before .before .word .ensures) (v .verdict .ensures .0) (w .word2 .ensures), refusal-short _ (v .verdict .ensures .1))
+    (refusal-told _ _ _ _ _ (v .before .before .before .before .word .ensures) (v .verdict-text .ensures .0) (w .word2 .ensures), refusal-short _ (v .verdict-text .ensures .1))
 
 pub refusal-line-spec : {M : Type 1} → statement M
 refusal-line-spec =
@@ -35,7 +35,7 @@ refusal-line-spec =
     (tie.spec
     slice-aggregate-word
     word-requires
-    verdict-requires
+    verdict-text-requires
     slice-aggregate-word-2
     word-requires-2
     same-length

@@ -23,7 +23,7 @@ use sound.WpLaws.{FmC, fmOf, WpFn-mono}
 use denote.RattleType.{RattleType, owns}
 use denote.Laws.{Is, shows}
 use denote.Builtin.{u8}
-use denote.Ref.{RefT, NamedLft, now}
+use denote.Ref.{RefT, NamedLft}
 use denote.Signature.{plain, namedLft}
 use denote.Slice.{sliceVal, ShrSlice, slice-vals, shr-slice-tells, shr-slice-lawful, shr-slice-copy}
 use denote.Steps.{owned, peeks, heard, nothing}
@@ -38,15 +38,12 @@ use denote.Triple.Walked.{says, Stays, stay-none, stay-none-slice, walkOf, goes-
 use denote.Exit.{yes}
 use denote.Triple.Clauses.{ensured, lasts}
 use Rattle.job.specs.declared.NetEnds.{NetEnds}
-use Rattle.job.specs.Check.{boardOf}
-use Rattle.job.specs.Read.{netAt}
 use Rattle.job.proofs.NetEnds as S
 use Rattle.job.proofs.NetEnds.Laws as S′
 use Rattle.words.specs.declared.Net.{Net}
 use Rattle.words.proofs.Net as N
 use Rattle.words.proofs.Net.Laws as N′
-use Rattle.reader.specs.Held.{readerOf, netOf}
-use Rattle.reader.proofs.Giving.{net-by-number}
+use Rattle.reader.specs.Held.{readerOf, netIn}
 use Rattle.reader.specs.declared.Reader.{Reader}
 use Rattle.reader.proofs.Reader as T
 use Rattle.reader.proofs.Reader.Laws as T′
@@ -84,7 +81,7 @@ module _ {M : Type 1} (𝓤 : URA M) (H : Heap 𝓤) (A : Atoms 𝓤) (W : Given
   v = sliceVal (s .ptr) (length (s .now))
 
   abbrev found : NetEnds
-  found = netAt (now s) (boardOf (now s)) (i .0)
+  found = netIn (readerOf s) (i .0)
 
   -- the struct's type as a local of a body has it
   abbrev αᵉ : NamedLft
@@ -120,8 +117,8 @@ module _ {M : Type 1} (𝓤 : URA M) (H : Heap 𝓤) (A : Atoms 𝓤) (W : Given
   goes-net : (r : Reader) (u : Val) → ent 𝓤 (⋆ 𝓤 H A (‵ (B (κ, tt) .own r (u ∷ [])) ∷ (‵ (flft κ q) ⊛ ‵ ftrue) ∷ [])) (Gives 𝓤 H A mem run .pre (to-net r u))
   goes-net r u = qed W (‵ (B (κ, tt) .own r (u ∷ [])) ∷ (‵ (flft κ q) ⊛ ‵ ftrue) ∷ []) ∵ nothing ! $ owned ! N.the-row (Is N.the-row) (LL.makes N.the-type N′.the-plain 𝓤 H A) i _ p $ fjoin ! $ move ! (1 ∷ 0 ∷ []) $ fjoin ! $ move ! (1 ∷ 0 ∷ []) $ join ! $ frame ! $ done !
 
-  net-said : (r : Reader) (t : NetEnds) → ent 𝓤 (ensured 𝓤 H A net.ended (net.clauses 𝓤 H A mem run) (κ, tt) (r, (i, tt)) tt t) (fact 𝓤 (t ≡ netOf (now (r .job)) (r .n .0) (i .0)))
-  net-said r t = exE 𝓤 _ (λ ws. snd∗ 𝓤 (sem 𝓤 H A (lasts net.ended (κ, tt) (r, (i, tt)) ws)) (fact 𝓤 (t ≡ netOf (now (r .job)) (r .n .0) (i .0))))
+  net-said : (r : Reader) (t : NetEnds) → ent 𝓤 (ensured 𝓤 H A net.ended (net.clauses 𝓤 H A mem run) (κ, tt) (r, (i, tt)) tt t) (fact 𝓤 (t ≡ netIn r (i .0)))
+  net-said r t = exE 𝓤 _ (λ ws. snd∗ 𝓤 (sem 𝓤 H A (lasts net.ended (κ, tt) (r, (i, tt)) ws)) (fact 𝓤 (t ≡ netIn r (i .0))))
 
   exits : (t : NetEnds) (u : Val) → t ≡ found → ent 𝓤 (⋆ 𝓤 H A (‵ (S.the-row .own t (u ∷ [])) ∷ (‵ (flft κ q) ⊛ ‵ ftrue) ∷ ‵ Own ∷ [])) (Post u)
   exits t u e =
@@ -144,13 +141,13 @@ module _ {M : Type 1} (𝓤 : URA M) (H : Heap 𝓤) (A : Atoms 𝓤) (W : Given
         use2 W (raw (Gives 𝓤 H A mem run .pre (to-net r u))) (goes-net r u) $
         calls-at ! fm (Gives 𝓤 H A mem run) known-net (to-net r u) (and-then ! (load ! (from ! (stop !)) (look ! 2 refl)) (and-then ! (load ! (from ! (stop !)) (look ! 4 refl)) (no-more !))) (λ u′.
         use1 W (later (some (λ (t : NetEnds). ((‵ (flft κ q) ⊛ ‵ ftrue) ⊛ ‵ (S.the-row .own t (u′ ∷ []))) ⊛ raw (ensured 𝓤 H A net.ended (net.clauses 𝓤 H A mem run) (κ, tt) (r, (i, tt)) tt t)))) (id⊢ 𝓤 _) $ await ! tt $ pick ! (λ t.
-        split ! $ move ! (1 ∷ []) $ use1 W (raw (fact 𝓤 (t ≡ netOf (now (r .job)) (r .n .0) (i .0)))) (net-said r t) $ heard ! (t ≡ netOf (now (r .job)) (r .n .0) (i .0)) (λ e′. split ! $ move ! (1 ∷ []) $
+        split ! $ move ! (1 ∷ []) $ use1 W (raw (fact 𝓤 (t ≡ netIn r (i .0)))) (net-said r t) $ heard ! (t ≡ netIn r (i .0)) (λ e′. split ! $ move ! (1 ∷ []) $
         -- [the result; the token; what s owns; _3; …; _2; …; _1; …; room for _0; …]
         peeks ! S.the-row (Is S.the-row) (shows 𝓤 H A S.the-row) t (u′ ∷ []) (λ is′.
         land ! (from ! (stop !)) (init ! 9 refl (EL.lawful S.the-type S′.the-laws 𝓤 H A W tt .typed t _ is′ .0)) $
         returns ! (look ! 9 refl) $ forget ! 3 refl $ forget ! 5 refl $ forget ! 7 refl $ forget ! 9 refl $
         move ! (9 ∷ 10 ∷ []) $ free1 ! $ move ! (7 ∷ 8 ∷ []) $ free1 ! $ move ! (5 ∷ 6 ∷ []) $ free1 ! $ move ! (3 ∷ 4 ∷ []) $ free1 ! $ free0 ! $
-        by ! (exits t u′ (e′ ∙ (ap (λ (x : Reader). netOf (now (x .job)) (x .n .0) (i .0)) e ∙ net-by-number (now s) (i .0))))))))))))))))
+        by ! (exits t u′ (e′ ∙ ap (λ (x : Reader). netIn x (i .0)) e))))))))))))))
 
 module _ {M : Type 1} (𝓤 : URA M) (H : Heap 𝓤) (A : Atoms 𝓤) (W : Given 𝓤 H A) (mem : Memory → SProp 𝓤) (run : Routine → Fun 𝓤) where
   whole-walks : (C : Calls 𝓤 H) (Λ : Loops 𝓤 H) → FmC 𝓤 H (W .laws) C → Triple 𝓤 (C #reader·open) (Open 𝓤 H A mem run) → Triple 𝓤 (C #reader·net) (Gives 𝓤 H A mem run)

@@ -1,29 +1,49 @@
 -- `reader::numbers_of` meets its contract.
-use mathlib.Core.Path.{ap}
+use borrow.Author.Needs.{needs}
+use mathlib.Core.Path.{sym, ap, _∙_}
 use native.Mathlib.Omega.{arith}
 use Rattle.reader.specs.Held.{numbersOf}
-use Rattle.job.proofs.Passing.{its-within}
-use borrow.Author.Needs.{needs}
+use Rattle.job.proofs.Passing.{check-passed}
 use Rattle.reader.proofs.numbers_of.Statement.{statement}
 use Rattle.reader.proofs.numbers_of.Tie as tie
 
-board-of-requires : tie.Need-board-of-requires
-board-of-requires c κs = search needs
+check-job-requires : tie.Need-check-job-requires
+check-job-requires c κs = search needs
 
-cast-t3 : tie.Need-cast-t3
-cast-t3 c = omega (arith, its-within _ _ (c .before .board-of .ensures))
+enum-told : tie.Need-enum-told
+enum-told c = search needs
 
-cast-t5 : tie.Need-cast-t5
-cast-t5 c = omega (arith, its-within _ _ (c .before .before .board-of .ensures))
-
-cast-t7 : tie.Need-cast-t7
-cast-t7 c = omega (arith, its-within _ _ (c .before .before .before .board-of .ensures))
+enum-known-checked : tie.Need-enum-known-checked
+enum-known-checked c = search needs
 
 cast-t8 : tie.Need-cast-t8
-cast-t8 c = omega (arith, its-within _ _ (c .before .before .before .before .board-of .ensures))
+cast-t8 c = omega (arith, check-passed _ _ (c .before .before .before .before .check-job .ensures) _ (c .before .before .checked .given .1) .ranged)
+
+cast-t10 : tie.Need-cast-t10
+cast-t10 c = omega (arith, check-passed _ _ (c .before .before .before .before .before .check-job .ensures) _ (c .before .before .before .checked .given .1) .ranged)
+
+cast-t12 : tie.Need-cast-t12
+cast-t12 c = omega (arith, check-passed _ _ (c .before .before .before .before .before .before .check-job .ensures) _ (c .before .before .before .before .checked .given .1) .ranged)
+
+cast-t13 : tie.Need-cast-t13
+cast-t13 c = omega (arith, check-passed _ _ (c .before .before .before .before .before .before .before .check-job .ensures) _ (c .before .before .before .before .before .checked .given .1) .ranged)
 
 returns : tie.Need-returns
-returns c = ap numbersOf (c .before .before .before .before .board-of .ensures)
+returns c = ap numbersOf (sym (c .enum-told .given .1) ∙ c .before .before .check-job .ensures)
+
+returns-2 : tie.Need-returns-2
+returns-2 c = ap numbersOf (sym (c .before .before .before .before .before .checked .given .1) ∙ c .before .before .before .before .before .before .before .check-job .ensures)
 
 pub numbers-of-spec : {M : Type 1} → statement M
-numbers-of-spec = tie.close (tie.spec board-of-requires cast-t3 cast-t5 cast-t7 cast-t8 returns)
+numbers-of-spec =
+    tie.close
+    (tie.spec
+    check-job-requires
+    enum-told
+    enum-known-checked
+    cast-t8
+    cast-t10
+    cast-t12
+    cast-t13
+    returns
+    returns-2)

@@ -40,9 +40,8 @@ use denote.Triple.Table.{entered, cited}
 use denote.Triple.Walked.{says, Stays, stay-none-slice, walkOf, goes-none-slice, Walks, ends-at, walked, walk-meets}
 use denote.Triple.Clauses.{ensured, lasts}
 use denote.Exit.{yes}
-use Rattle.job.specs.Check.{boardOf}
-use Rattle.reader.specs.Held.{numbersOf}
-use Rattle.reader.specs.declared.Reader.{Reader}
+use Rattle.job.specs.Check.{checkedOf}
+use Rattle.reader.specs.Held.{numbersOf, holding}
 use Rattle.reader.specs.declared.Numbers.{Numbers}
 use Rattle.reader.proofs.Reader as T
 use Rattle.reader.proofs.Reader.Laws as T′
@@ -65,10 +64,6 @@ module _ {M : Type 1} (𝓤 : URA M) (H : Heap 𝓤) (A : Atoms 𝓤) (mem : Mem
   abbrev NumbersOf : Contract 𝓤
   NumbersOf = tripleOf 𝓤 H A callee.signature (callee.spec 𝓤 H A mem run)
 
--- the reader that the code makes
-abbrev with : RefT (List ℕ) → Numbers → Reader
-with s h = record { job = s; f = h .f; c = h .c; m = h .m; n = h .n }
-
 module _ {M : Type 1} (𝓤 : URA M) (H : Heap 𝓤) (A : Atoms 𝓤) (W : Given 𝓤 H A) (mem : Memory → SProp 𝓤) (run : Routine → Fun 𝓤) (κ : Lft) (q : Share) (s : RefT (List ℕ)) where
   abbrev α : NamedLft
   α = namedLft 1 0 tt (κ, tt)
@@ -76,6 +71,9 @@ module _ {M : Type 1} (𝓤 : URA M) (H : Heap 𝓤) (A : Atoms 𝓤) (W : Given
   -- the machine value that s has
   abbrev v : Val
   v = sliceVal (s .ptr) (length (s .now))
+
+  abbrev found : Numbers
+  found = numbersOf (checkedOf (now s))
 
   abbrev at : List Val × Unit {0}
   at = (v ∷ [], tt)
@@ -105,13 +103,13 @@ module _ {M : Type 1} (𝓤 : URA M) (H : Heap 𝓤) (A : Atoms 𝓤) (W : Given
       move ! (0 ∷ 2 ∷ []) $ fjoin ! $ move ! (2 ∷ 0 ∷ []) $ use2 W (raw (NumbersOf 𝓤 H A mem run .pre to)) asked $ frame ! $ done !
 
   -- of the callee's `ensured`, the clause alone: it has no `&mut`, so what is said of last values is dropped
-  said : (h : Numbers) → ent 𝓤 (ensured 𝓤 H A callee.ended (callee.clauses 𝓤 H A mem run) (κ, tt) (s, tt) tt h) (fact 𝓤 (h ≡ numbersOf (boardOf (now s))))
-  said h = exE 𝓤 _ (λ ws. snd∗ 𝓤 (sem 𝓤 H A (lasts callee.ended (κ, tt) (s, tt) ws)) (fact 𝓤 (h ≡ numbersOf (boardOf (now s)))))
+  said : (h : Numbers) → ent 𝓤 (ensured 𝓤 H A callee.ended (callee.clauses 𝓤 H A mem run) (κ, tt) (s, tt) tt h) (fact 𝓤 (h ≡ found))
+  said h = exE 𝓤 _ (λ ws. snd∗ 𝓤 (sem 𝓤 H A (lasts callee.ended (κ, tt) (s, tt) ws)) (fact 𝓤 (h ≡ found)))
 
-  exits : (h : Numbers) (u : Val) → h ≡ numbersOf (boardOf (now s)) → ent 𝓤 (⋆ 𝓤 H A (‵ (S.the-row .own h (u ∷ [])) ∷ (‵ (flft κ q) ⊛ ‵ ftrue) ∷ ‵ Own ∷ [])) (Post (T′.lowered (with s h)))
+  exits : (h : Numbers) (u : Val) → h ≡ found → ent 𝓤 (⋆ 𝓤 H A (‵ (S.the-row .own h (u ∷ [])) ∷ (‵ (flft κ q) ⊛ ‵ ftrue) ∷ ‵ Own ∷ [])) (Post (T′.lowered (holding s h)))
   exits h u e =
       qed W (‵ (S.the-row .own h (u ∷ [])) ∷ (‵ (flft κ q) ⊛ ‵ ftrue) ∷ ‵ Own ∷ []) ∵
-      suffices ! _ (ends-at 𝓤 H A opened.ended stayed (opened.clauses 𝓤 H A mem run) W (((κ, tt), (q, tt), tt, (s, tt), at), tt) (T′.lowered (with s h)) (with s h) (tt, tt) (tt, tt)) $ says ! (ap (with s) e) $
+      suffices ! _ (ends-at 𝓤 H A opened.ended stayed (opened.clauses 𝓤 H A mem run) W (((κ, tt), (q, tt), tt, (s, tt), at), tt) (T′.lowered (holding s h)) (holding s h) (tt, tt) (tt, tt)) $ says ! (ap (holding s) e) $
       move ! (1 ∷ []) $ frame ! $ move ! (1 ∷ []) $ use1 W (‵ Own ⊛ ‵ Own) (shr-slice-copy 𝓤 H A W (named 0) κ u8 .twice s (v ∷ [])) $ split ! $ nothing ! $ move ! (1 ∷ 0 ∷ []) $ fjoin ! $ frame ! $
       -- [what s owns; what the numbers own]: the two together are what the reader's fields own
       move ! (1 ∷ []) $ use1 W (given (u ∷ [] ≡ S′.lowered h ∷ []) (‵ (all-own (S.the-type .parts) S′.the-laws (values h)))) (own-open 𝓤 H A W S.the-type S′.the-laws (values h) u) $ learn ! (λ _.
@@ -130,7 +128,7 @@ module _ {M : Type 1} (𝓤 : URA M) (H : Heap 𝓤) (A : Atoms 𝓤) (W : Given
         -- [what the callee asks; what s owns; room for _2; …; _1; …; room for _0; …]
         calls-at ! fm (NumbersOf 𝓤 H A mem run) known to (and-then ! (load ! (from ! (stop !)) (look ! 4 refl)) (no-more !)) (λ u.
         use1 W (later (some (λ (h : Numbers). ((‵ (flft κ q) ⊛ ‵ ftrue) ⊛ ‵ (S.the-row .own h (u ∷ []))) ⊛ raw (ensured 𝓤 H A callee.ended (callee.clauses 𝓤 H A mem run) (κ, tt) (s, tt) tt h)))) (id⊢ 𝓤 _) $ await ! tt $ pick ! (λ h.
-        split ! $ move ! (1 ∷ []) $ use1 W (raw (fact 𝓤 (h ≡ numbersOf (boardOf (now s))))) (said h) $ heard ! (h ≡ numbersOf (boardOf (now s))) (λ e. split ! $ move ! (1 ∷ []) $
+        split ! $ move ! (1 ∷ []) $ use1 W (raw (fact 𝓤 (h ≡ found))) (said h) $ heard ! (h ≡ found) (λ e. split ! $ move ! (1 ∷ []) $
         -- [the result; the token; what s owns; room for _2; …; _1; …; room for _0; …]
         peeks ! S.the-row (Is S.the-row) (shows 𝓤 H A S.the-row) h (u ∷ []) (λ is.
         land ! (from ! (stop !)) (init ! 3 refl (LL.lawful S.the-type S′.the-laws 𝓤 H A W .typed h _ is .0)) $

@@ -1,5 +1,5 @@
--- `recolour::count_on` meets its contract: the state is `Counted`, one more net each turn. Assumes nothing.
-use Rattle.recolour.specs.Steps.{Counted}
+-- `recolour::count_on` meets its contract: the state is `CountedOn`, one more net each turn. Assumes nothing.
+use Rattle.recolour.specs.Steps.{CountedOn}
 use Rattle.recolour.proofs.Collecting.{count-none, count-more, count-skip, count-all}
 use native.Mathlib.Omega.{arith}
 use Prim.Native.Nat.{_≤_, _-_}
@@ -8,7 +8,7 @@ use Rattle.recolour.proofs.count_on.Statement.{statement}
 use Rattle.recolour.proofs.count_on.Tie as tie
 
 abbrev Inv-loop : tie.InvT-loop
-Inv-loop plan n x y count₀ i₀ count i = (i ≤ n) × Counted plan x y i count
+Inv-loop plan n x y count₀ i₀ count i = (i ≤ n) × CountedOn plan x y i count
 
 abbrev μ-loop : tie.MeasureT-loop
 μ-loop plan n x y count₀ i₀ count i = n - i

@@ -1,5 +1,5 @@
--- `recolour::write_back` meets its contract: the state is `Written`, one more net each turn. Assumes nothing.
-use Rattle.recolour.specs.Steps.{Written}
+-- `recolour::write_back` meets its contract: the state is `WrittenBack`, one more net each turn. Assumes nothing.
+use Rattle.recolour.specs.Steps.{WrittenBack}
 use Rattle.recolour.proofs.Writing.{write-none, write-more, write-skip, write-all}
 use native.Mathlib.Omega.{arith}
 use Prim.Native.Nat.{_≤_, _-_}
@@ -8,7 +8,7 @@ use Rattle.recolour.proofs.write_back.Statement.{statement}
 use Rattle.recolour.proofs.write_back.Tie as tie
 
 abbrev Inv-loop : tie.InvT-loop
-Inv-loop plan₀ n x y s count mark e₀ i₀ plan e i = (i ≤ n) × Written plan₀ plan n x y s mark i e
+Inv-loop plan₀ n x y s count mark e₀ i₀ plan e i = (i ≤ n) × WrittenBack plan₀ plan n x y s mark i e
 
 abbrev μ-loop : tie.MeasureT-loop
 μ-loop plan₀ n x y s count mark e₀ i₀ plan e i = n - i

@@ -8,7 +8,7 @@ use lib.ListN.{length-set}
 use Rattle.walk.proofs.Region.{u-in, stepped}
 
 -- the partner is an item
-small : (c : tie.After-wide) → c .wide .result < c .before .before .before .args .n
+small : (c : tie.After-wide) → c .wide .result < c .before .before .before .before .args .g .n
 small c = search u-in
 
 add-wide : tie.Need-add-wide
@@ -33,22 +33,22 @@ slice-write-s : tie.Need-slice-write-s
 slice-write-s c = search needs
 
 add-s-2 : tie.Need-add-s-2
-add-s-2 c = omega (arith, small c)
+add-s-2 c = omega (arith, small (c .before .before))
 
 mul-s-2 : tie.Need-mul-s-2
-mul-s-2 c = omega (arith, small c)
+mul-s-2 c = omega (arith, small (c .before .before))
 
 slice-write-s-2 : tie.Need-slice-write-s-2
-slice-write-s-2 c = simp length-set (omega (arith, small c))
+slice-write-s-2 c = simp length-set (omega (arith, small (c .before .before)))
 
 add-wide-2 : tie.Need-add-wide-2
-add-wide-2 c = omega (arith, small c)
+add-wide-2 c = omega (arith, small (c .before .before .before))
 
 mul-wide-2 : tie.Need-mul-wide-2
-mul-wide-2 c = omega (arith, small c)
+mul-wide-2 c = omega (arith, small (c .before .before .before))
 
 slice-read-wide-2 : tie.Need-slice-read-wide-2
-slice-read-wide-2 c = simp length-set (omega (arith, small (c .before)))
+slice-read-wide-2 c = simp length-set (omega (arith, small (c .before .before .before .before)))
 
 wide-requires-2 : tie.Need-wide-requires-2
 wide-requires-2 c κs = search needs

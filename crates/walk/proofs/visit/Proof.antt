@@ -10,10 +10,10 @@ use Rattle.walk.specs.Going.{noLabel}
 use Rattle.walk.proofs.Region.{Wending, wend-first, wend-again, wend-round, visit-none}
 
 abbrev Inv-loop : tie.InvT-loop
-Inv-loop s₀ p q x n a t₀ s t = Wending s₀ s p q x n a t
+Inv-loop s₀ g a t₀ s t = Wending s₀ s (g .p) (g .q) (g .x) (g .n) a t
 
 abbrev μ-loop : tie.MeasureT-loop
-μ-loop s₀ p q x n a t₀ s t = sum (is (at (part s x n)) noLabel) n
+μ-loop s₀ g a t₀ s t = sum (is (at (part s (g .x) (g .n))) noLabel) (g .n)
 
 add-if1 : tie.Need-add-if1 Inv-loop μ-loop
 add-if1 c = search needs

@@ -2,7 +2,7 @@
 use borrow.Author.Needs.{needs}
 use native.Mathlib.Omega.{arith}
 use Rattle.laws.specs.Row.{at}
-use Rattle.board.specs.Job.{jobIn}
+use Rattle.job.specs.Job.{jobIn}
 use Rattle.board.specs.Board.{totalExcess}
 use Rattle.finish.specs.Finish.{Chained}
 use Rattle.finish.proofs.Settling.{chained-none, chained-few, chained-more, chained-less, chained-settled}

@@ -1,12 +1,8 @@
 -- `job::read::net_section` meets its contract.
-use Rattle.job.proofs.Passing.{start-inside, section-end, board-refused}
-use Rattle.job.specs.declared.Checked.{Checked}
-use Rattle.words.proofs.Stretches.{stretch-none, stretch-part}
-use lib.ListN.{length}
-use native.Mathlib.Omega.{arith}
-use Prim.Native.Nat.{_≤_}
-use mathlib.Core.Path.{_≡_, sym, ap, _∙_}
 use borrow.Author.Needs.{needs}
+use Rattle.job.proofs.Passing.{check-passed, check-refused, check-done}
+use Rattle.words.proofs.Stretches.{stretch-none, stretch-part}
+use native.Mathlib.Omega.{arith}
 use Rattle.job.proofs.read.net_section.Statement.{statement}
 use Rattle.job.proofs.read.net_section.Tie as tie
 
@@ -19,26 +15,24 @@ enum-told c = search needs
 slice-aggregate-result : tie.Need-slice-aggregate-result
 slice-aggregate-result c = search needs
 
-enum-told-2 : tie.Need-enum-told-2
-enum-told-2 c = search needs
+enum-known-checked : tie.Need-enum-known-checked
+enum-known-checked c = search needs
 
 sub-result : tie.Need-sub-result
-sub-result c = rw (ap (λ (k : Checked). k .board .start) (c .before .before .check-job .ensures)) (start-inside _)
+sub-result c = omega (arith, check-passed _ _ (c .before .before .before .check-job .ensures) _ (c .before .checked .given .1) .long)
 
 part-result-start : tie.Need-part-result-start
-part-result-start c = rw (ap (λ (k : Checked). k .board .start) (c .before .before .check-job .ensures)) (start-inside _)
+part-result-start c = omega (arith, check-passed _ _ (c .before .before .before .check-job .ensures) _ (c .before .checked .given .1) .long)
 
 part-result-end : tie.Need-part-result-end
 part-result-end c = search needs
 
 returns : tie.Need-returns
-returns c = let e = c .before .before .before .check-job .ensures in
-    rw (board-refused _ _ (sym (ap (λ (k : Checked). k .verdict) e) ∙ c .before .enum-told .given .1)) (stretch-none _ _)
+returns c = rw (check-refused _ _ (c .before .before .before .check-job .ensures) _ (c .before .enum-told .given .1)) (stretch-none _ _)
 
 returns-2 : tie.Need-returns-2
-returns-2 c = let e = c .before .before .before .check-job .ensures in
-    let z = section-end _ (sym (ap (λ (k : Checked). k .verdict) e) ∙ c .before .enum-told2 .given .1) in
-    rw (ap (λ (k : Checked). k .board .start) e) (stretch-part _ _ _ _ _ (omega arith))
+returns-2 c = let p = check-passed _ _ (c .before .before .before .before .check-job .ensures) _ (c .before .before .checked .given .1) in
+    rw (check-done _ _ (c .before .before .before .before .check-job .ensures) _ (c .before .before .checked .given .1), p .start) (stretch-part _ _ _ _ _ (omega (arith, p .long, p .n, p .start)))
 
 pub net-section-spec : {M : Type 1} → statement M
 net-section-spec =
@@ -47,7 +41,7 @@ net-section-spec =
     check-job-requires
     enum-told
     slice-aggregate-result
-    enum-told-2
+    enum-known-checked
     sub-result
     part-result-start
     part-result-end

@@ -1,10 +1,10 @@
 -- `sheet::read::numbers_of` meets its contract.
+use borrow.Author.Needs.{needs}
 use Rattle.sheet.proofs.Saying.{front-read}
 use lib.Seq.{length-take-le}
 use lib.ListN.{length-take, length-drop}
 use native.Mathlib.Omega.{arith}
-use mathlib.Core.Path.{_≡_, sym}
-use borrow.Author.Needs.{needs}
+use mathlib.Core.Path.{sym}
 use Rattle.sheet.proofs.read.numbers_of.Statement.{statement}
 use Rattle.sheet.proofs.read.numbers_of.Tie as tie
 
@@ -30,7 +30,7 @@ same-length : tie.Need-same-length
 same-length c = search needs
 
 returns : tie.Need-returns
-returns c = front-read _ _ _ _ (omega arith) (omega arith) (c .before .before .read-list .ensures)
+returns c = let p = c .before .before .before .before .before .before .before .before .pre in front-read _ _ _ (p .0) _ _ (p .1 .0) (p .1 .1) (c .before .before .read-list .ensures)
 
 pub numbers-of-spec : {M : Type 1} → statement M
 numbers-of-spec =

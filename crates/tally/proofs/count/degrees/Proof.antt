@@ -1,7 +1,7 @@
 -- `tally::count::degrees` meets its contract.
 use Rattle.tally.proofs.Walks.{ends-low, degrees-next, degrees-fit, degrees-all}
 use Rattle.board.specs.Board.{endsAt}
-use Rattle.board.specs.Job.{jobIn}
+use Rattle.job.specs.Job.{jobIn}
 use Rattle.laws.proofs.Count.{Walked, walk-starts}
 use native.Mathlib.Omega.{arith}
 use borrow.Author.Needs.{needs}

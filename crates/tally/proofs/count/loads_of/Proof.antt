@@ -4,7 +4,7 @@ use borrow.Author.Needs.{needs}
 use native.Mathlib.Omega.{arith}
 use Rattle.laws.specs.Row.{at}
 use Rattle.laws.proofs.Count.{Walked, walk-starts}
-use Rattle.board.specs.Job.{jobIn}
+use Rattle.job.specs.Job.{jobIn}
 use Rattle.tally.proofs.Walks.{loadBy, own-passes, own-fits, own-counts, own-all, crossbar-low}
 use Rattle.tally.proofs.count.loads_of.Statement.{statement}
 use Rattle.tally.proofs.count.loads_of.Tie as tie

@@ -1,6 +1,6 @@
 -- `tally::count::loads_on` meets its contract.
 use Rattle.tally.proofs.Walks.{loadBy, ends-low, loads-next, loads-pass, loads-fit, loads-all}
-use Rattle.board.specs.Job.{jobIn}
+use Rattle.job.specs.Job.{jobIn}
 use Rattle.laws.proofs.Count.{Walked, walk-starts}
 use Rattle.laws.specs.Row.{at}
 use native.Mathlib.Omega.{arith}

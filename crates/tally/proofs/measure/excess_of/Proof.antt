@@ -1,6 +1,6 @@
 -- `tally::measure::excess_of` meets its contract.
 use Rattle.tally.proofs.Crossbars.{excessOn, excess-counted, excess-all}
-use Rattle.board.specs.Job.{jobIn}
+use Rattle.job.specs.Job.{jobIn}
 use Rattle.laws.proofs.Sum.{sum-more}
 use Rattle.laws.specs.Row.{at}
 use Rattle.laws.specs.Sum.{sum}
@@ -25,7 +25,7 @@ loads-on-requires : tie.Need-loads-on-requires Inv-loop μ-loop
 loads-on-requires c κs = search needs
 
 excess-on-requires : tie.Need-excess-on-requires Inv-loop μ-loop
-excess-on-requires c κs = omega (arith, c .before .before .before .before .before .before .pre .0 .ranged)
+excess-on-requires c κs = search needs
 
 add-above : tie.Need-add-above Inv-loop μ-loop
 add-above c = search needs
@@ -38,7 +38,7 @@ loop-less c = search needs
 
 loop-again : tie.Need-loop-again Inv-loop μ-loop
 loop-again c = let l = c .before .before .before .before .loop in let p = c .before .before .before .before .before .before .before .pre .0 in let a = c .before .before .before .before .before .before .before .args in
-    (omega arith, omega (arith, c .excess-on .ensures .0, excess-counted _ _ p (at (a .a .now)) (l .x) (c .before .loads-on .ensures), sum-more (excessOn (jobIn (a .job .now)) (at (a .a .now))) (l .x)), omega (arith, c .excess-on .ensures .1, p .ranged .f-high, l .inv .2))
+    (omega arith, omega (arith, c .excess-on .ensures .0, excess-counted _ _ p (at (a .plan .now)) (l .x) (c .before .loads-on .ensures), sum-more (excessOn (jobIn (a .job .now)) (at (a .plan .now))) (l .x)), omega (arith, c .excess-on .ensures .1, p .ranged .f-high, l .inv .2))
 
 returns : tie.Need-returns Inv-loop μ-loop
 returns c = let l = c .before .before .loop in l .inv .1 ∙ excess-all _ _ (c .before .before .before .before .before .pre .0) _ _ (omega arith)

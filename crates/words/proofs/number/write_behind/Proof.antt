@@ -5,7 +5,7 @@ use Rattle.words.specs.Lent.{onto}
 use lib.ListN.{take}
 use Prim.Native.Nat.{ℕ}
 use mathlib.Core.List.{List, _++_}
-use mathlib.Core.Path.{_≡_, ap, _∙_}
+use mathlib.Core.Path.{ap, _∙_}
 use borrow.Author.Needs.{needs}
 use Rattle.words.proofs.number.write_behind.Statement.{statement}
 use Rattle.words.proofs.number.write_behind.Tie as tie

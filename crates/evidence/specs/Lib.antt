@@ -1,0 +1,2 @@
+-- Evidence: the bytes at fault.
+pub mod Evidence

@@ -1,0 +1,2 @@
+-- An assignment that is fit for a sheet.
+pub mod Fit

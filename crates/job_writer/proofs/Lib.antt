@@ -1,0 +1,3 @@
+-- The laws of the job writer.
+pub mod Writing
+pub mod RoundTrip

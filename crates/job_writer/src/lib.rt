@@ -1,0 +1,81 @@
+// The job writer.
+ghost use mathlib.Core.Path.{_≡_};
+ghost use Prim.Native.Nat.{_*_, _≤_};
+ghost use lib.ListN.{length};
+ghost use Rattle.words.specs.Lent.{onto, roomAfter};
+ghost use Rattle.job.specs.Check.{netsVerdict};
+ghost use Rattle.job_writer.specs.Write.{firstOf, secondOf, writtenLength, writeVerdict, jobOf};
+use job::well_formed::check_net;
+use job::well_formed::check_ranges;
+use words::Crossbar;
+use words::Fpga;
+use words::Net;
+use words::Place;
+use words::Verdict;
+use words::number::wide;
+use words::number::write_behind;
+use words::number::write_list;
+use words::refuse;
+
+// The numbers of two bytes in front of the nets: a count of three, f, c, m, and n.
+const HEAD: usize = 5;
+
+// Refusals 9 and 10 for the nets of a list, in order.
+fn check_ends(ends: &[u16], f: usize, n: usize) -> Verdict
+    requires { ⌜ (2 * n ≤ length (now ends)) × (n ≤ 4096) ⌝ }
+    ensures { λ r. ⌜ r ≡ netsVerdict f (firstOf (now (ends .entry))) (secondOf (now (ends .entry))) n ⌝ }
+{
+    let mut i: usize = 0;
+    while i < n {
+        let v = wide(ends[2 * i]);
+        let w = wide(ends[2 * i + 1]);
+        let found = check_net(f, i as u16, v, w);
+        i += 1;
+        if let Verdict::Refused(_) = found {
+            return found;
+        }
+    }
+    Verdict::Done
+}
+
+// All that the writer checks before it writes; the room by its length.
+fn check_write(f: usize, c: usize, m: usize, n: usize, ends: &[u16], room_length: usize) -> Verdict
+    ensures { λ r. ⌜ r ≡ writeVerdict f c m n (now (ends .entry)) «room_length» ⌝ }
+{
+    let ranges = check_ranges(f, c, m, n);
+    if let Verdict::Refused(_) = ranges {
+        return ranges;
+    }
+    let count = 2 * n;
+    if ends.len() < count {
+        return refuse(11, Place::Nowhere);
+    }
+    if room_length < 2 * (HEAD + count) {
+        return refuse(11, Place::Nowhere);
+    }
+    check_ends(ends, f, n)
+}
+
+// Writes the job to the front of the room.
+fn put_job(f: u16, c: u16, m: u16, n: u16, ends: &[u16], room: &mut [u8])
+    requires { ⌜ (2 * n ≤ length (now ends)) × (writtenLength n ≤ length (now room)) ⌝ }
+    ensures { λ r. ⌜ now (room .exit) ≡ onto (jobOf f c m n (now (ends .entry))) (now (room .entry)) ⌝ }
+{
+    let head: [u16; HEAD] = [3, f, c, m, n];
+    write_list(room, &head);
+    let count = 2 * wide(n);
+    write_behind(room, 2 * HEAD, &ends[..count]);
+}
+
+// The job of a board f, c, m with n nets, whose FPGAs stand in `ends`, two for each net, to the front of the room.
+pub fn write_job(f: Fpga, c: Crossbar, m: u16, n: Net, ends: &[u16], room: &mut [u8]) -> Verdict
+    ensures { λ r. ⌜ r ≡ writeVerdict (f .0) (c .0) m (n .0) (now (ends .entry)) (length (now (room .entry))) ⌝ }
+    ensures { λ r. ⌜ now (room .exit) ≡ roomAfter r (jobOf (f .0) (c .0) m (n .0) (now (ends .entry))) (now (room .entry)) ⌝ }
+{
+    let verdict = check_write(wide(f.0), wide(c.0), wide(m), wide(n.0), ends, room.len());
+    if let Verdict::Refused(_) = verdict {
+        return verdict;
+    }
+    put_job(f.0, c.0, m, n.0, ends, room);
+    verdict
+}

@@ -1,0 +1,2 @@
+-- The listing of a plan.
+pub mod Listing

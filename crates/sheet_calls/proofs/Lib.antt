@@ -1,0 +1,2 @@
+-- What the audit's answer says of the job.
+pub mod Answered

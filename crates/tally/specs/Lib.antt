@@ -1,2 +1,0 @@
--- Refusals 12 and 13.
-pub mod Check
