@@ -7,7 +7,7 @@ use Rattle.words.specs.Number.{word, numbers}
 use Rattle.board.specs.Netlist.{Netlist}
 use Rattle.job.specs.declared.Head.{Head}
 
--- the byte of each number in the head, and the head's length: no other crate asks for these
+-- the byte of each number in the head, and the head's length: beside this crate only the job writer asks for these
 abbrev pub fAt : ℕ
 fAt = 2
 
