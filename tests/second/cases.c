@@ -71,10 +71,7 @@ void case_write_job(const unsigned number[4], struct list ends, size_t room_leng
     memcpy(call.number, number, sizeof call.number);
     lend_list(&call, LENT_ENDS, ends);
     lend_room(&call, LENT_ROOM, room_length);
-    if (verdict.number == 0) {
-        expected.front[LENT_ROOM].size = put_job(job, number, ends.numbers);
-        expected.front[LENT_ROOM].bytes = job;
-    }
+    if (verdict.number == 0) expected = expect_written(LENT_ROOM, job, put_job(job, number, ends.numbers));
     hold(&call, &expected);
 }
 
@@ -140,10 +137,7 @@ const uint8_t *case_write_sheet(struct file file, struct list plan, size_t room_
     struct expected expected = expect_refusal(verdict);
     lend_list(&call, LENT_PLAN, plan);
     lend_room(&call, LENT_ROOM, room_length);
-    if (verdict.number == 0) {
-        expected.front[LENT_ROOM].size = put_sheet(&job, plan.numbers, sheet);
-        expected.front[LENT_ROOM].bytes = sheet;
-    }
+    if (verdict.number == 0) expected = expect_written(LENT_ROOM, sheet, put_sheet(&job, plan.numbers, sheet));
     const struct reply *reply = hold(&call, &expected);
     return reply->returned == 0 ? reply->after[LENT_ROOM] : NULL;
 }
@@ -162,8 +156,7 @@ void case_read_sheet(struct file file, struct file sheet, size_t plan_length)
     if (verdict.number == 0) {
         /* A sheet has the high byte first, memory the low byte. */
         for (size_t i = 0; i < 2 * (size_t)job.n; i++) numbers[i ^ 1] = sheet.bytes[SHEET_HEAD + i];
-        expected.front[LENT_PLAN].size = 2 * (size_t)job.n;
-        expected.front[LENT_PLAN].bytes = numbers;
+        expected = expect_written(LENT_PLAN, numbers, 2 * (size_t)job.n);
     }
     hold(&call, &expected);
 }

@@ -26,6 +26,15 @@ struct expected expect_answer(uint64_t first, uint64_t second, uint64_t third, u
     return expected;
 }
 
+struct expected expect_written(enum lent_name name, const uint8_t *bytes, size_t size)
+{
+    static const size_t element_size[LENT_COUNT] = LENT_ELEMENT_SIZES;
+    struct expected expected = expect_answer(size / element_size[name], 0, 0, 0);
+    expected.front[name].size = size;
+    expected.front[name].bytes = bytes;
+    return expected;
+}
+
 static void hold_answer(const struct reply *reply, const struct expected *expected)
 {
     const uint64_t *want = expected->answer, *got = reply->answer;

@@ -21,6 +21,9 @@ struct expected {
 struct expected expect_refusal(struct verdict verdict);
 struct expected expect_answer(uint64_t first, uint64_t second, uint64_t third, uint64_t fourth);
 
+/* Bytes at the front of one buffer; the answer is how many of its elements they are. */
+struct expected expect_written(enum lent_name name, const uint8_t *bytes, size_t size);
+
 /* Makes the call and compares. Ends the program if the driver broke down. */
 const struct reply *hold(const struct call *call, const struct expected *expected);
 

@@ -2,11 +2,12 @@
 ghost use mathlib.Core.Path.{_≡_};
 ghost use lib.ListN.{length};
 ghost use Rattle.laws.specs.Row.{at, row};
+ghost use Rattle.words.specs.Verdict.{writtenBy};
 ghost use Rattle.words.specs.Lent.{roomAfter};
 ghost use Rattle.job.specs.Job.{nIn};
 ghost use Rattle.job.specs.Check.{jobVerdict, checkedOf};
 ghost use Rattle.job.specs.Read.{netAt};
-ghost use Rattle.job_writer.specs.Write.{writeVerdict, jobOf};
+ghost use Rattle.job_writer.specs.Write.{writtenLength, writeVerdict, jobOf};
 ghost use Rattle.reader.specs.Held.{numbersOf};
 ghost use Rattle.spare.specs.Spare.{spareRoom, headroomRoom};
 ghost use Rattle.round.specs.declared.Round.{Round};
@@ -14,10 +15,10 @@ ghost use Rattle.round.specs.OneRound.{OneRound};
 ghost use Rattle.finish.specs.declared.Finish.{Finish};
 ghost use Rattle.finish.specs.Finish.{FinishCall};
 ghost use Rattle.finish.specs.Plan.{PlanCall};
-ghost use Rattle.sheet.specs.Sheet.{sheetOf, crossbarIn};
+ghost use Rattle.sheet.specs.Sheet.{sheetLength, sheetOf, crossbarIn};
 ghost use Rattle.audit.specs.Audit.{auditVerdict, readSheetVerdict, writeSheetVerdict};
 ghost use Rattle.evidence.specs.Evidence.{auditFault};
-ghost use Rattle.tell.specs.InC.{verdictInC, numbersInC, netInC, sectionInC, roundInC, finishInC, faultInC, roomInC, Told};
+ghost use Rattle.tell.specs.InC.{verdictInC, writtenInC, numbersInC, netInC, sectionInC, roundInC, finishInC, faultInC, roomInC, Told};
 use crate::check;
 use audit::audit::audit;
 use evidence::find_fault;
@@ -40,6 +41,7 @@ use tell::tell_room;
 use tell::tell_round;
 use tell::tell_section;
 use tell::tell_verdict;
+use tell::tell_written;
 use words::Crossbar;
 use words::Fpga;
 use words::Net;
@@ -82,10 +84,10 @@ pub extern "C" fn hogvuldur_write_job(
     room: &mut [u8],
     answer: &mut [u64; 4],
 ) -> u16
-    ensures { λ r. ⌜ (r, now (answer .exit)) ≡ verdictInC (writeVerdict f c m n (now (ends .entry)) (length (now (room .entry)))) ⌝ }
+    ensures { λ r. ⌜ (r, now (answer .exit)) ≡ writtenInC (writtenBy (writeVerdict f c m n (now (ends .entry)) (length (now (room .entry)))) (writtenLength n)) ⌝ }
     ensures { λ r. ⌜ now (room .exit) ≡ roomAfter (writeVerdict f c m n (now (ends .entry)) (length (now (room .entry)))) (jobOf f c m n (now (ends .entry))) (now (room .entry)) ⌝ }
 {
-    tell_verdict(
+    tell_written(
         write_job(Fpga(f), Crossbar(c), m, Net(n), ends, room),
         answer,
     )
@@ -134,10 +136,10 @@ pub extern "C" fn hogvuldur_write_sheet(
     room: &mut [u8],
     answer: &mut [u64; 4],
 ) -> u16
-    ensures { λ r. ⌜ (r, now (answer .exit)) ≡ verdictInC (writeSheetVerdict (now (job .entry)) (now (plan .entry)) (length (now (room .entry)))) ⌝ }
+    ensures { λ r. ⌜ (r, now (answer .exit)) ≡ writtenInC (writtenBy (writeSheetVerdict (now (job .entry)) (now (plan .entry)) (length (now (room .entry)))) (sheetLength (now (job .entry)))) ⌝ }
     ensures { λ r. ⌜ now (room .exit) ≡ roomAfter (writeSheetVerdict (now (job .entry)) (now (plan .entry)) (length (now (room .entry)))) (sheetOf (now (job .entry)) (at (now (plan .entry)))) (now (room .entry)) ⌝ }
 {
-    tell_verdict(write_sheet(job, plan, room), answer)
+    tell_written(write_sheet(job, plan, room), answer)
 }
 
 #[no_mangle]
@@ -147,10 +149,10 @@ pub extern "C" fn hogvuldur_read_sheet(
     plan: &mut [u16],
     answer: &mut [u64; 4],
 ) -> u16
-    ensures { λ r. ⌜ (r, now (answer .exit)) ≡ verdictInC (readSheetVerdict (now (job .entry)) (now (sheet .entry)) (length (now (plan .entry)))) ⌝ }
+    ensures { λ r. ⌜ (r, now (answer .exit)) ≡ writtenInC (writtenBy (readSheetVerdict (now (job .entry)) (now (sheet .entry)) (length (now (plan .entry)))) (nIn (now (job .entry)))) ⌝ }
     ensures { λ r. ⌜ now (plan .exit) ≡ roomAfter (readSheetVerdict (now (job .entry)) (now (sheet .entry)) (length (now (plan .entry)))) (row (crossbarIn (now (job .entry)) (now (sheet .entry))) (nIn (now (job .entry)))) (now (plan .entry)) ⌝ }
 {
-    tell_verdict(read_sheet(job, sheet, plan), answer)
+    tell_written(read_sheet(job, sheet, plan), answer)
 }
 
 #[no_mangle]

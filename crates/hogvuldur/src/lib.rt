@@ -13,6 +13,7 @@ pub use words::Net;
 pub use words::Place;
 pub use words::Refusal;
 pub use words::Verdict;
+pub use words::Written;
 pub use words::number_of;
 pub use words::p_of;
 pub use words::q_of;

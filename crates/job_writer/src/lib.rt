@@ -1,7 +1,8 @@
 // The job writer.
 ghost use mathlib.Core.Path.{_≡_};
-ghost use Prim.Native.Nat.{_*_, _≤_};
+ghost use Prim.Native.Nat.{_*_, _≤_, _<_};
 ghost use lib.ListN.{length};
+ghost use Rattle.words.specs.Verdict.{writtenBy};
 ghost use Rattle.words.specs.Lent.{onto, roomAfter};
 ghost use Rattle.job.specs.Check.{netsVerdict};
 ghost use Rattle.job_writer.specs.Write.{firstOf, secondOf, writtenLength, writeVerdict, jobOf};
@@ -12,10 +13,12 @@ use words::Fpga;
 use words::Net;
 use words::Place;
 use words::Verdict;
+use words::Written;
 use words::number::wide;
 use words::number::write_behind;
 use words::number::write_list;
 use words::refuse;
+use words::written_by;
 
 // The numbers of two bytes in front of the nets: a count of three, f, c, m, and n.
 const HEAD: usize = 5;
@@ -38,6 +41,13 @@ fn check_ends(ends: &[u16], f: usize, n: usize) -> Verdict
     Verdict::Done
 }
 
+fn written_length(n: usize) -> usize
+    requires { ⌜ n < 65536 ⌝ }
+    ensures { λ r. ⌜ r ≡ writtenLength n ⌝ }
+{
+    2 * (HEAD + 2 * n)
+}
+
 // All that the writer checks before it writes; the room by its length.
 fn check_write(f: usize, c: usize, m: usize, n: usize, ends: &[u16], room_length: usize) -> Verdict
     ensures { λ r. ⌜ r ≡ writeVerdict f c m n (now (ends .entry)) «room_length» ⌝ }
@@ -50,7 +60,7 @@ fn check_write(f: usize, c: usize, m: usize, n: usize, ends: &[u16], room_length
     if ends.len() < count {
         return refuse(11, Place::Nowhere);
     }
-    if room_length < 2 * (HEAD + count) {
+    if room_length < written_length(n) {
         return refuse(11, Place::Nowhere);
     }
     check_ends(ends, f, n)
@@ -67,15 +77,24 @@ fn put_job(f: u16, c: u16, m: u16, n: u16, ends: &[u16], room: &mut [u8])
     write_behind(room, 2 * HEAD, &ends[..count]);
 }
 
-// The job of a board f, c, m with n nets, whose FPGAs stand in `ends`, two for each net, to the front of the room.
-pub fn write_job(f: Fpga, c: Crossbar, m: u16, n: Net, ends: &[u16], room: &mut [u8]) -> Verdict
-    ensures { λ r. ⌜ r ≡ writeVerdict (f .0) (c .0) m (n .0) (now (ends .entry)) (length (now (room .entry))) ⌝ }
-    ensures { λ r. ⌜ now (room .exit) ≡ roomAfter r (jobOf (f .0) (c .0) m (n .0) (now (ends .entry))) (now (room .entry)) ⌝ }
+// The job to the front of the room, unless it is refused.
+fn write_checked(f: u16, c: u16, m: u16, n: u16, ends: &[u16], room: &mut [u8]) -> Verdict
+    ensures { λ r. ⌜ r ≡ writeVerdict f c m n (now (ends .entry)) (length (now (room .entry))) ⌝ }
+    ensures { λ r. ⌜ now (room .exit) ≡ roomAfter r (jobOf f c m n (now (ends .entry))) (now (room .entry)) ⌝ }
 {
-    let verdict = check_write(wide(f.0), wide(c.0), wide(m), wide(n.0), ends, room.len());
+    let verdict = check_write(wide(f), wide(c), wide(m), wide(n), ends, room.len());
     if let Verdict::Refused(_) = verdict {
         return verdict;
     }
-    put_job(f.0, c.0, m, n.0, ends, room);
+    put_job(f, c, m, n, ends, room);
     verdict
+}
+
+// The job of a board f, c, m with n nets, whose FPGAs stand in `ends`, two for each net, to the front of the room.
+pub fn write_job(f: Fpga, c: Crossbar, m: u16, n: Net, ends: &[u16], room: &mut [u8]) -> Written
+    ensures { λ r. ⌜ r ≡ writtenBy (writeVerdict (f .0) (c .0) m (n .0) (now (ends .entry)) (length (now (room .entry)))) (writtenLength (n .0)) ⌝ }
+    ensures { λ r. ⌜ now (room .exit) ≡ roomAfter (writeVerdict (f .0) (c .0) m (n .0) (now (ends .entry)) (length (now (room .entry)))) (jobOf (f .0) (c .0) m (n .0) (now (ends .entry))) (now (room .entry)) ⌝ }
+{
+    let verdict = write_checked(f.0, c.0, m, n.0, ends, room);
+    written_by(verdict, written_length(wide(n.0)))
 }

@@ -5,6 +5,8 @@ use mathlib.Core.List.{List, [], _∷_}
 use Prim.Native.Nat.{ℕ}
 use Rattle.words.specs.declared.Verdict.{Verdict}
 use Rattle.words.specs.declared.Verdict.the-variants as verdict
+use Rattle.words.specs.declared.Written.{Written}
+use Rattle.words.specs.declared.Written.the-variants as written
 use Rattle.words.specs.Verdict.{numberOf, pOf, qOf}
 use Rattle.job.specs.declared.Checked.{Checked}
 use Rattle.job.specs.declared.NetEnds.{NetEnds}
@@ -29,6 +31,11 @@ InC = ℕ × List ℕ
 -- the refusal's number or 0; p and q
 abbrev pub verdictInC : Verdict → InC
 verdictInC v = (numberOf v, four (pOf v) (qOf v) 0 0)
+
+-- so many bytes or numbers at the front of the room
+abbrev pub writtenInC : Written → InC
+writtenInC (written.Long k) = (0, four k 0 0 0)
+writtenInC (written.Refused r) = verdictInC (verdict.Refused r)
 
 -- f, c, m and n
 abbrev pub numbersInC : Numbers → List ℕ

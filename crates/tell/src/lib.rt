@@ -2,7 +2,7 @@
 ghost use mathlib.Core.Path.{_≡_};
 ghost use Prim.Native.Nat.{_≤_};
 ghost use Rattle.job.specs.Read.{sectionLong};
-ghost use Rattle.tell.specs.InC.{four, verdictInC, numbersInC, netInC, sectionInC, roundInC, finishInC, faultInC, roomInC};
+ghost use Rattle.tell.specs.InC.{four, verdictInC, writtenInC, numbersInC, netInC, sectionInC, roundInC, finishInC, faultInC, roomInC};
 use evidence::Fault;
 use finish::Finish;
 use job::Checked;
@@ -11,6 +11,7 @@ use reader::Numbers;
 use round::Round;
 use spare::Room;
 use words::Verdict;
+use words::Written;
 use words::number::wide;
 use words::number_of;
 use words::p_of;
@@ -27,6 +28,18 @@ pub fn tell_verdict(v: Verdict, answer: &mut [u64; 4]) -> u16
 {
     put(answer, p_of(v), q_of(v), 0, 0);
     number_of(v)
+}
+
+pub fn tell_written(made: Written, answer: &mut [u64; 4]) -> u16
+    ensures { λ r. ⌜ (r, now (answer .exit)) ≡ writtenInC made ⌝ }
+{
+    match made {
+        Written::Long(k) => {
+            put(answer, k, 0, 0, 0);
+            0
+        }
+        Written::Refused(r) => tell_verdict(Verdict::Refused(r), answer),
+    }
 }
 
 pub fn tell_numbers(h: Numbers, answer: &mut [u64; 4])

@@ -5,6 +5,8 @@ use Rattle.words.specs.declared.Place.{Place}
 use Rattle.words.specs.declared.Place.the-variants.{Byte, Net, Fpga, Crossbar, Load, Length, Nowhere}
 use Rattle.words.specs.declared.Verdict.{Verdict}
 use Rattle.words.specs.declared.Verdict.the-variants.{Done, Refused}
+use Rattle.words.specs.declared.Written.{Written}
+use Rattle.words.specs.declared.Written.the-variants as written
 
 -- ---- the places
 
@@ -81,3 +83,9 @@ _then_ (Refused r) v = Refused r
 unfoldable pub firstRefusal : (ℕ → Verdict) → ℕ → Verdict
 firstRefusal g zero = Done
 firstRefusal g (suc n) = firstRefusal g n then g n
+
+-- ---- what a call that writes to lent room answers
+
+abbrev pub writtenBy : Verdict → ℕ → Written
+writtenBy Done long = written.Long long
+writtenBy (Refused r) long = written.Refused r

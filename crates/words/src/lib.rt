@@ -1,6 +1,6 @@
 // The customer's words: three sorts of count, a refusal with its place, and numbers of two bytes.
 ghost use mathlib.Core.Path.{_≡_};
-ghost use Rattle.words.specs.Verdict.{refuse, numberOf, pOf, qOf};
+ghost use Rattle.words.specs.Verdict.{refuse, numberOf, pOf, qOf, writtenBy};
 
 pub mod number;
 
@@ -31,6 +31,12 @@ pub struct Refusal {
 
 pub enum Verdict {
     Done,
+    Refused(Refusal),
+}
+
+// What a call that writes to lent room answers: how much stands at its front now, bytes of a file or numbers of a list.
+pub enum Written {
+    Long(usize),
     Refused(Refusal),
 }
 
@@ -89,5 +95,15 @@ pub fn q_of(v: Verdict) -> usize
                 Place::Nowhere => 0,
             }
         }
+    }
+}
+
+// So much was written, unless the verdict is a refusal.
+pub fn written_by(v: Verdict, long: usize) -> Written
+    ensures { λ r. ⌜ r ≡ writtenBy v long ⌝ }
+{
+    match v {
+        Verdict::Done => Written::Long(long),
+        Verdict::Refused(r) => Written::Refused(r),
     }
 }

@@ -29,23 +29,20 @@ refuse-requires c κs = search needs
 returns-2 : tie.Need-returns-2
 returns-2 c = c .refuse .ensures ∙ sym (too-few _ _ _ _ _ _ (sym (c .before .before .before .before .check-ranges .ensures) ∙ c .before .before .enum-told2 .given .1) (omega arith))
 
-add-if2 : tie.Need-add-if2
-add-if2 c = search needs
-
-mul-if2 : tie.Need-mul-if2
-mul-if2 c = search needs
+written-length-requires : tie.Need-written-length-requires
+written-length-requires c κs = omega (arith, ranged _ _ _ _ (sym (c .before .before .before .check-ranges .ensures) ∙ c .before .enum-told2 .given .1) .n-high)
 
 refuse-requires-2 : tie.Need-refuse-requires-2
 refuse-requires-2 c κs = search needs
 
 returns-3 : tie.Need-returns-3
-returns-3 c = c .refuse2 .ensures ∙ sym (too-small _ _ _ _ _ _ (sym (c .before .before .before .before .before .check-ranges .ensures) ∙ c .before .before .before .enum-told2 .given .1) (omega arith) (omega arith))
+returns-3 c = c .refuse2 .ensures ∙ sym (too-small _ _ _ _ _ _ (sym (c .before .before .before .before .before .before .check-ranges .ensures) ∙ c .before .before .before .before .enum-told2 .given .1) (omega arith) (omega arith))
 
 check-ends-requires : tie.Need-check-ends-requires
-check-ends-requires c κs = (omega arith, ranged _ _ _ _ (sym (c .before .before .before .before .check-ranges .ensures) ∙ c .before .before .enum-told2 .given .1) .n-high)
+check-ends-requires c κs = (omega arith, ranged _ _ _ _ (sym (c .before .before .before .before .before .check-ranges .ensures) ∙ c .before .before .before .enum-told2 .given .1) .n-high)
 
 returns-4 : tie.Need-returns-4
-returns-4 c = c .check-ends .ensures ∙ sym (by-ends _ _ _ _ _ _ (sym (c .before .before .before .before .before .check-ranges .ensures) ∙ c .before .before .before .enum-told2 .given .1) (omega arith) (omega arith))
+returns-4 c = c .check-ends .ensures ∙ sym (by-ends _ _ _ _ _ _ (sym (c .before .before .before .before .before .before .check-ranges .ensures) ∙ c .before .before .before .before .enum-told2 .given .1) (omega arith) (omega arith))
 
 pub check-write-spec : {M : Type 1} → statement M
 check-write-spec =
@@ -58,8 +55,7 @@ check-write-spec =
     mul-count
     refuse-requires
     returns-2
-    add-if2
-    mul-if2
+    written-length-requires
     refuse-requires-2
     returns-3
     check-ends-requires
