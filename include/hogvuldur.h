@@ -25,7 +25,7 @@
  *
  * ANSWERS. A call that can refuse returns HOGVULDUR_DONE or the refusal's number, and always
  * writes all four numbers of `answer`: after a refusal p, q, 0, 0; otherwise what the call says,
- * filled up with zeros.
+ * filled up with zeros. What stands where in `answer` has a name below.
  *
  * REFUSALS, in the order in which they are checked unless a call says otherwise, with p (q is 0 but
  * for 24):
@@ -68,11 +68,46 @@ extern "C" {
 /* The least length of scratch, in numbers of two bytes. */
 #define HOGVULDUR_SCRATCH 32768
 
+/* The length of a job and of a sheet with n nets and c crossbars; the longest of each. */
 #define HOGVULDUR_JOB_BYTES(n) ((size_t)10 + 4 * (size_t)(n))
 #define HOGVULDUR_SHEET_BYTES(n, c) ((size_t)12 + 2 * (size_t)(n) + 2 * (size_t)(c))
+#define HOGVULDUR_MOST_JOB_BYTES HOGVULDUR_JOB_BYTES(HOGVULDUR_MOST_NETS)
+#define HOGVULDUR_MOST_SHEET_BYTES HOGVULDUR_SHEET_BYTES(HOGVULDUR_MOST_NETS, HOGVULDUR_MOST_CROSSBARS)
 
-/* What a call returns when nothing is refused. */
-#define HOGVULDUR_DONE 0
+/* What a call returns when nothing is refused, and the refusals. */
+enum {
+    HOGVULDUR_DONE = 0,
+    HOGVULDUR_JOB_TOO_SHORT = 1,
+    HOGVULDUR_BOARD_COUNT_WRONG = 2,
+    HOGVULDUR_F_OUT_OF_RANGE = 3,
+    HOGVULDUR_C_OUT_OF_RANGE = 4,
+    HOGVULDUR_M_OUT_OF_RANGE = 5,
+    HOGVULDUR_M_ODD = 6,
+    HOGVULDUR_TOO_MANY_NETS = 7,
+    HOGVULDUR_JOB_TOO_LONG = 8,
+    HOGVULDUR_NO_SUCH_FPGA = 9,
+    HOGVULDUR_FPGA_TWICE = 10,
+    HOGVULDUR_BUFFER_TOO_SHORT = 11,
+    HOGVULDUR_DEGREE_ABOVE_LIMIT = 12,
+    HOGVULDUR_NO_SUCH_CROSSBAR = 13,
+    HOGVULDUR_SHEET_LENGTH_WRONG = 21,
+    HOGVULDUR_SHEET_HEAD_DIFFERS = 22,
+    HOGVULDUR_SHEET_CROSSBAR_WRONG = 23,
+    HOGVULDUR_LOAD_ABOVE_WIDTH = 24,
+    HOGVULDUR_NOT_BALANCED = 25,
+    HOGVULDUR_SHEET_TOTAL_WRONG = 26
+};
+
+/* What stands where in `answer`: answer[HOGVULDUR_P] and so on. */
+enum { HOGVULDUR_P, HOGVULDUR_Q };                                     /* after a refusal */
+enum { HOGVULDUR_F, HOGVULDUR_C, HOGVULDUR_M, HOGVULDUR_N };           /* numbers */
+enum { HOGVULDUR_FIRST_FPGA, HOGVULDUR_SECOND_FPGA };                  /* net */
+enum { HOGVULDUR_SECTION_START, HOGVULDUR_SECTION_BYTES };             /* net_section */
+enum { HOGVULDUR_WRITTEN };                                            /* write_job, write_sheet, read_sheet */
+enum { HOGVULDUR_MOVED, HOGVULDUR_V, HOGVULDUR_A, HOGVULDUR_B };       /* one_round */
+enum { HOGVULDUR_ROUNDS, HOGVULDUR_EXCESS };                           /* finish, plan */
+enum { HOGVULDUR_IN_SHEET, HOGVULDUR_FAULT_START, HOGVULDUR_FAULT_BYTES }; /* evidence */
+enum { HOGVULDUR_NETS_LEFT };                                          /* spare, headroom */
 
 /* Checks a job. Refusals 1 to 10. */
 uint16_t hogvuldur_check(const uint8_t *job, size_t job_length, uint64_t answer[4]);
@@ -82,7 +117,8 @@ void hogvuldur_numbers(const uint8_t *job, size_t job_length, uint64_t answer[4]
 
 /*
  * The two FPGAs of net i. Returns 1, or 0 with four zeros where there is no such net: i at or
- * above n, or the job refused.
+ * above n, or the job refused. It checks the whole job each time: to go through all nets, ask
+ * for the net section once and read four bytes a net there.
  */
 uint16_t hogvuldur_net(const uint8_t *job, size_t job_length, uint16_t i, uint64_t answer[4]);
 
@@ -95,7 +131,7 @@ void hogvuldur_net_section(const uint8_t *job, size_t job_length, uint64_t answe
 /*
  * Writes the job of a board f, c, m with n nets to the first 10 + 4n bytes of `room`. Net i is
  * between FPGAs ends[2i] and ends[2i + 1]. Refusals 3 to 7; 11 for fewer than 2n ends or too
- * little room; then 9 and 10. Places are those in the job it would write.
+ * little room; then 9 and 10. Places are those in the job it would write. Answer: the bytes written.
  */
 uint16_t hogvuldur_write_job(uint16_t f, uint16_t c, uint16_t m, uint16_t n,
                              const uint16_t *ends, size_t ends_length,
@@ -130,13 +166,16 @@ uint16_t hogvuldur_plan(const uint8_t *job, size_t job_length,
 
 /*
  * Writes the sheet of a job and an assignment to the first 12 + 2n + 2c bytes of `room`. Refusals
- * 1 to 11, then 13, 24, 25. The audit accepts what it writes.
+ * 1 to 11, then 13, 24, 25. The audit accepts what it writes. Answer: the bytes written.
  */
 uint16_t hogvuldur_write_sheet(const uint8_t *job, size_t job_length,
                                const uint16_t *plan, size_t plan_length,
                                uint8_t *room, size_t room_length, uint64_t answer[4]);
 
-/* Writes a sheet's n crossbar numbers to the front of `plan`. The audit's refusals, then 11. */
+/*
+ * Writes a sheet's n crossbar numbers to the front of `plan`. The audit's refusals, then 11. Answer:
+ * the numbers written, n.
+ */
 uint16_t hogvuldur_read_sheet(const uint8_t *job, size_t job_length,
                               const uint8_t *sheet, size_t sheet_length,
                               uint16_t *plan, size_t plan_length, uint64_t answer[4]);
