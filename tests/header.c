@@ -25,7 +25,7 @@ static void hold(const char *what, uint64_t want, uint64_t got)
 #define IS(call, name) hold(#name, name, call)
 #define STANDS(name, want) hold(#name, want, answer[name])
 
-/* A board f, c, 2 with so many nets between FPGAs 0 and 1. */
+/* A board 2, c, 2 with n nets between FPGAs 0 and 1. */
 static void make_job(uint16_t c, uint16_t n)
 {
     static const uint16_t ends[2 * 5] = {0, 1, 0, 1, 0, 1, 0, 1, 0, 1};

@@ -12,7 +12,7 @@ const char *const call_names[CALL_COUNT + 1] = {
 
 const char *const lent_names[LENT_COUNT + 1] = {"job", "sheet", "ends", "plan", "room", "scratch", "answer"};
 
-static const size_t element_size[LENT_COUNT] = LENT_ELEMENT_SIZES;
+const size_t lent_element_size[LENT_COUNT] = LENT_ELEMENT_SIZES;
 
 static struct process driver;
 static uint8_t lists[LENT_COUNT][MOST_LENT]; /* lent lists as the driver's memory holds them */
@@ -63,7 +63,7 @@ void lend_room(struct call *call, enum lent_name name, size_t length)
 
 size_t lent_size(const struct call *call, unsigned name)
 {
-    return call->lent[name].length * element_size[name];
+    return call->lent[name].length * lent_element_size[name];
 }
 
 static void give_number(uint64_t number, int bytes)

@@ -44,6 +44,7 @@ struct reply {
 
 extern const char *const call_names[CALL_COUNT + 1];
 extern const char *const lent_names[LENT_COUNT + 1];
+extern const size_t lent_element_size[LENT_COUNT];
 
 bool driver_start(char *const command[]);
 void driver_end(void);

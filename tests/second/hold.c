@@ -28,8 +28,7 @@ struct expected expect_answer(uint64_t first, uint64_t second, uint64_t third, u
 
 struct expected expect_written(enum lent_name name, const uint8_t *bytes, size_t size)
 {
-    static const size_t element_size[LENT_COUNT] = LENT_ELEMENT_SIZES;
-    struct expected expected = expect_answer(size / element_size[name], 0, 0, 0);
+    struct expected expected = expect_answer(size / lent_element_size[name], 0, 0, 0);
     expected.front[name].size = size;
     expected.front[name].bytes = bytes;
     return expected;

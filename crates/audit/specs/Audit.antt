@@ -3,12 +3,12 @@ use mathlib.Core.Bool.{Bool, not}
 use mathlib.Core.List.{List}
 use mathlib.Core.Path.{_≡_}
 use Prim.Native.Nat.{ℕ, _*_, _/_, _<_}
-use lib.Dec.{ltb, eqb}
+use lib.Dec.{eqb}
 use lib.ListN.{length}
 use Rattle.laws.specs.Row.{at}
 use Rattle.words.specs.declared.Verdict.{Verdict}
 use Rattle.words.specs.declared.Verdict.the-variants.{Done}
-use Rattle.words.specs.Verdict.{refuseIf, _then_, firstRefusal, atByte, atCrossbar, ofLength, nowhere}
+use Rattle.words.specs.Verdict.{refuseIf, tooShort, _then_, firstRefusal, atByte, atCrossbar, ofLength}
 use Rattle.words.specs.Number.{word}
 use Rattle.board.specs.Board.{total}
 use Rattle.job.specs.declared.Checked.{Checked}
@@ -63,8 +63,8 @@ auditedOf job sheet = checkedBy (auditVerdict job sheet) (headIn job)
 -- 11: fewer than n numbers, or too little room for the sheet, by their lengths
 unfoldable pub lentVerdict : List ℕ → ℕ → ℕ → Verdict
 lentVerdict job planLength roomLength =
-    refuseIf (ltb planLength (nIn job)) 11 nowhere then
-    refuseIf (ltb roomLength (sheetLength job)) 11 nowhere
+    tooShort planLength (nIn job) then
+    tooShort roomLength (sheetLength job)
 
 -- the sheet writer: 1 to 11, then 13, 24, 25
 unfoldable pub writeSheetVerdict : List ℕ → List ℕ → ℕ → Verdict
@@ -75,7 +75,7 @@ writeSheetVerdict job plan roomLength =
 
 -- the sheet reader: the audit's refusals, then 11
 unfoldable pub readSheetVerdict : List ℕ → List ℕ → ℕ → Verdict
-readSheetVerdict job sheet planLength = auditVerdict job sheet then refuseIf (ltb planLength (nIn job)) 11 nowhere
+readSheetVerdict job sheet planLength = auditVerdict job sheet then tooShort planLength (nIn job)
 
 -- ---- what it means that nothing is refused
 

@@ -2,11 +2,10 @@
 use mathlib.Core.Path.{_≡_}
 use mathlib.Core.List.{List, _∷_}
 use Prim.Native.Nat.{ℕ, _+_, _*_}
-use lib.Dec.{ltb}
 use lib.ListN.{length, getD, take}
 use Rattle.words.specs.declared.Verdict.{Verdict}
 use Rattle.words.specs.declared.Verdict.the-variants.{Done}
-use Rattle.words.specs.Verdict.{refuseIf, _then_, nowhere}
+use Rattle.words.specs.Verdict.{tooShort, _then_}
 use Rattle.words.specs.Number.{bytes}
 use Rattle.job.specs.Job.{headLong, fIn, cIn, mIn, nIn, netsIn}
 use Rattle.job.specs.Check.{rangesVerdict, netsVerdict, jobVerdict}
@@ -26,8 +25,8 @@ writtenLength n = headLong + 4 * n
 unfoldable pub writeVerdict : ℕ → ℕ → ℕ → ℕ → List ℕ → ℕ → Verdict
 writeVerdict f c m n ends roomLength =
     rangesVerdict f c m n then
-    refuseIf (ltb (length ends) (2 * n)) 11 nowhere then
-    refuseIf (ltb roomLength (writtenLength n)) 11 nowhere then
+    tooShort (length ends) (2 * n) then
+    tooShort roomLength (writtenLength n) then
     netsVerdict f (firstOf ends) (secondOf ends) n
 
 -- the job that is written

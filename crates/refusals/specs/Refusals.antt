@@ -3,7 +3,7 @@ use mathlib.Core.Bool.{not}
 use Prim.Native.Nat.{ℕ}
 use lib.Dec.{ltb}
 use Rattle.words.specs.declared.Verdict.{Verdict}
-use Rattle.words.specs.Verdict.{refuseIf, _then_, firstRefusal, atNet, atFpga, nowhere}
+use Rattle.words.specs.Verdict.{refuseIf, tooShort, _then_, firstRefusal, atNet, atFpga}
 use Rattle.board.specs.Netlist.{Netlist}
 use Rattle.board.specs.Board.{degree, limit, usable}
 use Rattle.scratch.specs.Scratch.{scratchLong}
@@ -11,8 +11,8 @@ use Rattle.scratch.specs.Scratch.{scratchLong}
 -- 11: the room for an assignment of n nets, then the scratch, by their lengths
 unfoldable pub roomVerdict : ℕ → ℕ → ℕ → Verdict
 roomVerdict n planLength scratchLength =
-    refuseIf (ltb planLength n) 11 nowhere then
-    refuseIf (ltb scratchLength scratchLong) 11 nowhere
+    tooShort planLength n then
+    tooShort scratchLength scratchLong
 
 -- 12, with the lowest FPGA whose degree is above its limit
 unfoldable pub degreeVerdict : Netlist → Verdict

@@ -1,10 +1,9 @@
 // The sheet writer and the sheet reader.
 ghost use mathlib.Core.Path.{_≡_};
 ghost use Prim.Native.Nat.{_≤_};
-ghost use lib.Dec.{ltb};
 ghost use lib.ListN.{length};
 ghost use Rattle.laws.specs.Row.{at, row};
-ghost use Rattle.words.specs.Verdict.{refuseIf, _then_, nowhere, writtenBy};
+ghost use Rattle.words.specs.Verdict.{tooShort, _then_, writtenBy};
 ghost use Rattle.words.specs.Lent.{roomAfter};
 ghost use Rattle.job.specs.Job.{nIn, jobIn};
 ghost use Rattle.job.specs.Check.{WellFormed};
@@ -87,7 +86,7 @@ pub fn write_sheet(job: &[u8], plan: &[u16], room: &mut [u8]) -> Written
 fn read_lent(job: &[u8], head: Head, sheet: &[u8], plan: &mut [u16]) -> Verdict
     requires { ⌜ WellFormed (now job) head ⌝ }
     requires { ⌜ sheetLength (now job) ≤ length (now sheet) ⌝ }
-    ensures { λ r. ⌜ r ≡ refuseIf (ltb (length (now (plan .entry))) (nIn (now (job .entry)))) 11 nowhere ⌝ }
+    ensures { λ r. ⌜ r ≡ tooShort (length (now (plan .entry))) (nIn (now (job .entry))) ⌝ }
     ensures { λ r. ⌜ now (plan .exit) ≡ roomAfter r (row (crossbarIn (now (job .entry)) (now (sheet .entry))) (nIn (now (job .entry)))) (now (plan .entry)) ⌝ }
 {
     if plan.len() < head.n {

@@ -1,6 +1,7 @@
 -- A verdict is done, or a refusal: its number and its place. Of several faults the first in a fixed order is given.
 use mathlib.Core.Bool.{Bool, true, false}
 use Prim.Native.Nat.{ℕ, zero, suc}
+use lib.Dec.{ltb}
 use Rattle.words.specs.declared.Place.{Place}
 use Rattle.words.specs.declared.Place.the-variants.{Byte, Net, Fpga, Crossbar, Load, Length, Nowhere}
 use Rattle.words.specs.declared.Verdict.{Verdict}
@@ -72,6 +73,10 @@ qOf (Refused r) = placeQ (r .place)
 unfoldable pub refuseIf : Bool → ℕ → Place → Verdict
 refuseIf true k place = refuse k place
 refuseIf false k place = Done
+
+-- 11: what is lent is shorter than it must be
+abbrev pub tooShort : ℕ → ℕ → Verdict
+tooShort long least = refuseIf (ltb long least) 11 nowhere
 
 -- the first verdict, unless it is done: then the second
 infixr 5 _then_
