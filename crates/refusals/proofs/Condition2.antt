@@ -5,7 +5,9 @@ use mathlib.Core.List.{List}
 use mathlib.Core.Logic.{_↔_}
 use Prim.Native.Nat.{ℕ, _≤_, _<_}
 use native.Mathlib.Omega.{arith}
+use lib.ListN.{length}
 use Rattle.laws.specs.Lowest.{Lowest, somewhere}
+use Rattle.laws.specs.Row.{at}
 use Rattle.laws.specs.Test.{Says}
 use Rattle.laws.proofs.Test.{ltb-says}
 use Rattle.laws.proofs.Cases.{by-test}
@@ -13,7 +15,7 @@ use Rattle.laws.proofs.FirstWhere.{lowest-is-first, somewhere-says}
 use Rattle.words.specs.declared.Refusal.{Refusal}
 use Rattle.words.specs.declared.Verdict.the-variants.{Done, Refused}
 use Rattle.words.specs.Verdict.{refuse, atFpga}
-use Rattle.words.proofs.Order.{refuses, passes}
+use Rattle.words.proofs.Order.{then-done, refuses, passes}
 use Rattle.job.specs.Job.{nIn, jobIn}
 use Rattle.job.specs.Check.{jobVerdict}
 use Rattle.board.specs.Netlist.{Netlist}
@@ -21,8 +23,8 @@ use Rattle.board.specs.Board.{degree, limit, InRange, Legal, WithinLimits}
 use Rattle.board.proofs.Limit.{over-limit, legal-limit}
 use Rattle.scratch.specs.Scratch.{scratchLong}
 use Rattle.refusals.specs.Refusals.{degreeVerdict}
-use Rattle.refusals.specs.Start.{planVerdict}
-use Rattle.refusals.proofs.Faults.{over, degree-lowest, degrees-say}
+use Rattle.refusals.specs.Start.{planVerdict, roundVerdict}
+use Rattle.refusals.proofs.Faults.{over, degree-lowest, degrees-say, range-says}
 use Rattle.refusals.proofs.Starting.{room-enough, plan-checked}
 
 module _ (J : Netlist) where
@@ -75,3 +77,11 @@ module _ (job : List ℕ) (planLength scratchLength : ℕ) (sound : jobVerdict j
 
   pub plan-refused-not-legal : (r : Refusal) → planVerdict job planLength scratchLength ≡ Refused r → (a : ℕ → ℕ) → InRange (jobIn job) a → Legal (jobIn job) a → ⊥
   plan-refused-not-legal r e = refused-not-legal (jobIn job) r (sym plan-by-degree ∙ e)
+
+-- ---- one round and finish: with a start in range nothing is refused
+
+pub round-accepted : (job plan : List ℕ) (scratchLength : ℕ) → jobVerdict job ≡ Done → nIn job ≤ length plan → scratchLong ≤ scratchLength
+    → WithinLimits (jobIn job) → InRange (jobIn job) (at plan) → roundVerdict job plan scratchLength ≡ Done
+unfolding roundVerdict
+round-accepted job plan scratchLength sound nets long within ranged =
+    then-done _ _ (plan-accepted job (length plan) scratchLength sound nets long .1 within) (range-says (jobIn job) (at plan) 13 .1 ranged)

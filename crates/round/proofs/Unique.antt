@@ -1,11 +1,14 @@
 -- What is fixed. A round's FPGA and its two crossbars are, since the search is a function; so are the totals after it, and finish's
 -- starting excess; and a legal start is left as it is. Not fixed is which of the nets on the two crossbars go where (the split); with it
--- finish's and plan's assignment and how many rounds they make.
+-- finish's and plan's assignment and how many rounds they make. First for the rule, then for one round as a call.
 -- Assumes nothing.
 use mathlib.Core.Path.{_≡_, refl, sym, subst, subst₂, _∙_}
 use mathlib.Core.Logic.{_↔_}
+use mathlib.Core.List.{List}
 use Prim.Native.Nat.{ℕ}
 use native.Mathlib.Omega.{arith}
+use Rattle.laws.specs.Row.{at}
+use Rattle.job.specs.Job.{jobIn}
 use Rattle.board.specs.Netlist.{Netlist}
 use Rattle.board.specs.Board.{total, InRange, Legal, WithinLimits}
 use Rattle.board.specs.Rule.{Recoloured}
@@ -13,7 +16,13 @@ use Rattle.board.proofs.Rule.{rule-totals-once}
 use Rattle.search.specs.Search.{over, searchOf}
 use Rattle.search.proofs.Answers.{over-parts}
 use Rattle.round.specs.Round.{RoundStep, Chain, Finished}
+use Rattle.refusals.proofs.Starting.{ready}
+use Rattle.round.specs.declared.Round.{Round}
+use Rattle.round.specs.declared.Round.the-variants.{Settled, Moved, Refused}
+use Rattle.round.specs.OneRound.{Untouched, Accepted, OneRound}
+use Rattle.round.specs.Twice.{SameBeyond, RoundTwice, SameRound}
 use Rattle.round.proofs.Condition3.{round-not-legal, round-named}
+use Rattle.round.proofs.Promises.{moved-says, moved-round}
 
 -- two rounds on one assignment name the same FPGA and crossbars
 pub round-names-once : (J : Netlist) (a b b′ : ℕ → ℕ) (s : RoundStep J a b) (t : RoundStep J a b′) → (s .v ≡ t .v) × (s .A ≡ t .A) × (s .B ≡ t .B)
@@ -51,3 +60,33 @@ module _ (J : Netlist) (a : ℕ → ℕ) where
     -- the excess that is answered is unique
     pub finished-excess-once : {b′ : ℕ → ℕ} {k′ s′ : ℕ} → Finished J a b′ k′ s′ → s ≡ s′
     finished-excess-once r′ = r .excess ∙ sym (r′ .excess)
+
+-- ---- the call: two runs on the same input
+
+module _ (job plan₀ plan plan′ s₀ s s′ : List ℕ) where
+  pub accepted-twice : Accepted job plan₀ plan s₀ s → Accepted job plan₀ plan′ s₀ s′ → SameBeyond job plan plan′ s s′
+  accepted-twice one other =
+      record {
+        long = one .long ∙ sym (other .long);
+        beyond = one .beyond ∙ sym (other .beyond);
+        scratch = one .scratch-zero ∙ sym (other .scratch-zero);
+      }
+
+  pub untouched-twice : Untouched plan₀ plan s₀ s → Untouched plan₀ plan′ s₀ s′ → (plan ≡ plan′) × (s ≡ s′)
+  untouched-twice one other = (one .plan-same ∙ sym (other .plan-same), one .scratch-same ∙ sym (other .scratch-same))
+
+  twice : (r : Round) → OneRound job plan₀ plan s₀ s r → OneRound job plan₀ plan′ s₀ s′ r → RoundTwice r job plan plan′ s s′
+  twice Settled one other = (one .memory .0 ∙ sym (other .memory .0), one .memory .1 .scratch-zero ∙ sym (other .memory .1 .scratch-zero))
+  twice (Moved v A B) one other =
+      let start = ready job plan₀ s₀ (moved-says job plan₀ plan s₀ s v A B one .0) in (
+        accepted-twice (one .memory .1) (other .memory .1),
+        round-totals-once (jobIn job) (at plan₀) (at plan) (at plan′) (start .fitting .within) (start .in-range)
+            (moved-round job plan₀ plan s₀ s v A B one) (moved-round job plan₀ plan′ s₀ s′ v A B other),
+      )
+  twice (Refused r) one other = untouched-twice (one .memory) (other .memory)
+
+  -- the answer is the same, and so is lent memory but for the nets that the round has moved
+  pub round-once : (r r′ : Round) → OneRound job plan₀ plan s₀ s r → OneRound job plan₀ plan′ s₀ s′ r′ → SameRound job plan plan′ s s′ r r′
+  round-once r r′ one other =
+      let e = one .answer ∙ sym (other .answer) in
+      record { answer = e; memory = twice r one (subst (OneRound job plan₀ plan′ s₀ s′) (sym e) other) }
