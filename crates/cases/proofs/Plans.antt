@@ -26,7 +26,7 @@ use Rattle.finish.specs.declared.Finish.{Finish}
 use Rattle.finish.specs.declared.Finish.the-variants.{Done}
 use Rattle.finish.specs.Plan.{dealt, PlannedIn, PlanCall}
 use Rattle.finish.proofs.Dealing.{dealt-alike}
-use Rattle.finish.proofs.Promises.{plan-within, plan-done}
+use Rattle.finish.proofs.Promises.{plan-within, done-planned}
 use Rattle.cases.specs.Each.{Among, ways}
 use Rattle.cases.specs.Table.{dealOf}
 use Rattle.cases.specs.Table.Row.{sheet, legal}
@@ -67,7 +67,7 @@ module _ (job written : List ℕ) (h : Holds (sheet job written))
   pub sheet-says : (r ≡ Done 0 0) × (sheetOf job (at plan) ≡ written)
   sheet-says =
       let p = plan-within job plan₀ plan s₀ s r call sound room long (fitting job (nIn job) scratchLong (h .0) .within) in
-      by-deal (p .0) (p .1) (p .2) (plan-done job plan₀ plan s₀ s (p .0) (p .1) (subst (PlanCall job plan₀ plan s₀ s) (p .2) call) .1)
+      by-deal (p .0) (p .1) (p .2) (done-planned job plan₀ plan s₀ s (p .0) (p .1) (subst (PlanCall job plan₀ plan s₀ s) (p .2) call) .1)
 
 -- every legal assignment is among the listed ones
 pub legal-says : (job : List ℕ) (plans : List (List ℕ)) → Holds (legal job plans)

@@ -3,3 +3,4 @@ pub mod Dealing
 pub mod Settling
 pub mod Answering
 pub mod Promises
+pub mod Unique

@@ -1,6 +1,6 @@
 -- What the contracts of finish and plan promise: condition 2, condition 3 over all rounds, and how few the rounds are.
 -- Assumes nothing.
-use mathlib.Core.Path.{_≡_, refl, sym}
+use mathlib.Core.Path.{_≡_, refl, ap, sym, _∙_}
 use mathlib.Core.List.{List}
 use Prim.Native.Nat.{ℕ, _*_, _≤_, _<_}
 use native.Mathlib.Omega.{arith}
@@ -11,22 +11,23 @@ use Rattle.words.specs.declared.Refusal.{Refusal}
 use Rattle.words.specs.declared.Verdict.{Verdict}
 use Rattle.words.specs.declared.Verdict.the-variants as verdict
 use Rattle.words.specs.Verdict.{atFpga}
-use Rattle.job.specs.Job.{nIn, jobIn}
+use Rattle.job.specs.Job.{nIn, headIn, jobIn}
 use Rattle.job.specs.Check.{jobVerdict}
 use Rattle.board.specs.Netlist.{Netlist}
 use Rattle.board.specs.Board.{degree, limit, InRange, Legal, WithinLimits}
 use Rattle.board.proofs.Excess.{totalExcess-at-most}
 use Rattle.scratch.specs.Scratch.{scratchLong}
-use Rattle.round.specs.Round.{ImprovesBy, Planned}
-use Rattle.refusals.specs.Start.{planVerdict, roundVerdict}
+use Rattle.round.specs.Round.{Finished, ImprovesBy, Planned}
+use Rattle.refusals.specs.Start.{planVerdict, roundVerdict, Ready}
 use Rattle.round.specs.OneRound.{Untouched}
 use Rattle.refusals.proofs.Starting.{ready}
 use Rattle.round.proofs.Chains.{chain-improves, chain-short}
-use Rattle.refusals.proofs.Condition2.{no-assignment, plan-accepted, plan-refusal}
+use Rattle.refusals.proofs.Condition2.{no-assignment, plan-accepted, plan-refusal, round-accepted}
 use Rattle.finish.specs.declared.Finish.{Finish}
 use Rattle.finish.specs.declared.Finish.the-variants.{Done, Refused}
 use Rattle.finish.specs.Finish.{AnsweredBy, FinishedIn, FinishCall}
 use Rattle.finish.specs.Plan.{PlannedIn, PlanCall}
+use Rattle.finish.specs.Condition3.{FinishMade}
 
 -- an answer by a verdict: its refusal and nothing else, or rounds
 module _ (kept : Type 0) (made : ℕ → ℕ → Type 0) where
@@ -59,38 +60,51 @@ module _ (job plan₀ plan s₀ s : List ℕ) (r : Finish) (call : PlanCall job 
       let a = by-rounds (Untouched plan₀ plan s₀ s) (PlannedIn job plan₀ plan s₀ s) r (rw v at (call .answered)) in
       (a .0, a .1, a .2, a .3 .planned)
 
--- a plan that is not refused was accepted
-module _ (job plan₀ plan s₀ s : List ℕ) (k e : ℕ) where
-  planned-by : (v : Verdict) → v ≡ planVerdict job (length plan₀) (length s₀) → AnsweredBy v (Done k e) (Untouched plan₀ plan s₀ s) (PlannedIn job plan₀ plan s₀ s)
-      → (planVerdict job (length plan₀) (length s₀) ≡ verdict.Done) × PlannedIn job plan₀ plan s₀ s k e
-  planned-by verdict.Done q a = (sym q, a)
-  planned-by (verdict.Refused p) q a = absurd a
+-- what is done was accepted
+module _ (kept : Type 0) (made : ℕ → ℕ → Type 0) (k e : ℕ) where
+  by-done : (v w : Verdict) → v ≡ w → AnsweredBy v (Done k e) kept made → (w ≡ verdict.Done) × made k e
+  by-done verdict.Done w q a = (sym q, a)
+  by-done (verdict.Refused p) w q a = absurd a
 
-  pub plan-done : PlanCall job plan₀ plan s₀ s (Done k e) → (planVerdict job (length plan₀) (length s₀) ≡ verdict.Done) × PlannedIn job plan₀ plan s₀ s k e
-  plan-done call = planned-by (planVerdict job (length plan₀) (length s₀)) refl (call .answered)
+module _ (job plan₀ plan s₀ s : List ℕ) (k e : ℕ) where
+  pub done-planned : PlanCall job plan₀ plan s₀ s (Done k e) → (planVerdict job (length plan₀) (length s₀) ≡ verdict.Done) × PlannedIn job plan₀ plan s₀ s k e
+  done-planned call = by-done (Untouched plan₀ plan s₀ s) (PlannedIn job plan₀ plan s₀ s) k e (planVerdict job (length plan₀) (length s₀)) _ refl (call .answered)
+
+  pub done-finished : FinishCall job plan₀ plan s₀ s (Done k e) → (roundVerdict job plan₀ (length s₀) ≡ verdict.Done) × FinishedIn job plan₀ plan s₀ s k e
+  done-finished call = by-done (Untouched plan₀ plan s₀ s) (FinishedIn job plan₀ plan s₀ s) k e (roundVerdict job plan₀ (length s₀)) _ refl (call .answered)
 
 -- condition 3 over the rounds of a finish that is not refused
 module _ (job plan₀ plan s₀ s : List ℕ) (k e : ℕ) (call : FinishCall job plan₀ plan s₀ s (Done k e)) where
-  accepted : (v : Verdict) → v ≡ roundVerdict job plan₀ (length s₀) → AnsweredBy v (Done k e) (Untouched plan₀ plan s₀ s) (FinishedIn job plan₀ plan s₀ s)
-      → (roundVerdict job plan₀ (length s₀) ≡ verdict.Done) × FinishedIn job plan₀ plan s₀ s k e
-  accepted verdict.Done q a = (sym q, a)
-  accepted (verdict.Refused p) q a = absurd a
+  starts : Ready job (headIn job) plan₀ s₀
+  starts = ready job plan₀ s₀ (done-finished job plan₀ plan s₀ s k e call .0)
 
-  both : (roundVerdict job plan₀ (length s₀) ≡ verdict.Done) × FinishedIn job plan₀ plan s₀ s k e
-  both = accepted (roundVerdict job plan₀ (length s₀)) refl (call .answered)
+  made : Finished (jobIn job) (at plan₀) (at plan) k e
+  made = done-finished job plan₀ plan s₀ s k e call .1 .finished
 
   -- no FPGA's excess has risen, the spread has not widened, every net is on the board, and nothing is over
   pub finish-improves : ImprovesBy (jobIn job) (at plan₀) (at plan) k × Legal (jobIn job) (at plan)
-  finish-improves =
-      let g = ready job plan₀ s₀ (both .0) in
-      let f = both .1 .finished in
-      (chain-improves (jobIn job) (at plan₀) (g .fitting .within) (g .in-range) (f .chain), f .legal)
+  finish-improves = (chain-improves (jobIn job) (at plan₀) (starts .fitting .within) (starts .in-range) (made .chain), made .legal)
 
   -- at most as many rounds as the excess, which is at most two for each net
   pub finish-short : (k ≤ e) × (e ≤ 2 * nIn job)
-  finish-short =
-      let g = ready job plan₀ s₀ (both .0) in
-      let f = both .1 .finished in (
-        omega (arith, f .excess, chain-short (jobIn job) (at plan₀) (g .fitting .within) (g .in-range) (f .chain)),
-        omega (arith, f .excess, totalExcess-at-most (jobIn job) (at plan₀) (g .in-range)),
-      )
+  finish-short = (
+    omega (arith, made .excess, chain-short (jobIn job) (at plan₀) (starts .fitting .within) (starts .in-range) (made .chain)),
+    omega (arith, made .excess, totalExcess-at-most (jobIn job) (at plan₀) (starts .in-range)),
+  )
+
+-- the same from a job that passes, room and scratch enough, every degree within its limit, and a start in range
+module _ (job plan₀ plan s₀ s : List ℕ) (r : Finish) (call : FinishCall job plan₀ plan s₀ s r) (sound : jobVerdict job ≡ verdict.Done)
+    (nets : nIn job ≤ length plan₀) (long : scratchLong ≤ length s₀) (within : WithinLimits (jobIn job)) (ranged : InRange (jobIn job) (at plan₀)) where
+  pub finish-made : FinishMade (jobIn job) plan₀ plan r
+  finish-made =
+      let v = round-accepted job plan₀ (length s₀) sound nets long within ranged in
+      let a = by-rounds (Untouched plan₀ plan s₀ s) (FinishedIn job plan₀ plan s₀ s) r (rw v at (call .answered)) in
+      let f = a .3 .finished in
+      let i = chain-improves (jobIn job) (at plan₀) within ranged (f .chain) in
+      record {
+        k = a .0;
+        answer = a .2 ∙ ap (λ (e : ℕ). Done (a .0) e) (f .excess);
+        few = chain-short (jobIn job) (at plan₀) within ranged (f .chain);
+        improves = i;
+        legal = f .legal;
+      }

@@ -16,7 +16,7 @@ use Rattle.search.specs.declared.Found.the-variants as found
 use Rattle.round.specs.Round.{Chain}
 use Rattle.refusals.specs.Start.{Ready}
 use Rattle.round.specs.OneRound.{Stepped}
-use Rattle.round.proofs.Chains.{chain-more, chain-at-most}
+use Rattle.round.proofs.Chains.{chain-more, chain-short, finish-ends}
 use Rattle.round.proofs.Stepping.{step-settled, step-legal, step-moved, step-round, step-less, step-ready}
 use Rattle.round.proofs.Calling.{cleared-since}
 use Rattle.finish.specs.declared.Finish.the-variants.{Done}
@@ -28,11 +28,12 @@ module _ (job : List ℕ) (b : Head) (plan₀ s₀ : List ℕ) (ready₀ : Ready
   chained-none = record { ready = ready₀; chain = Chain.none; long = refl; beyond = refl; scratch-long = refl; scratch-beyond = refl }
 
   module _ (plan s : List ℕ) (k : ℕ) (q : Chained job b plan₀ plan s₀ s k) where
-    -- two rounds for each net are the most
-    pub chained-few : k ≤ 8192
-    chained-few =
-        let f = ready₀ .fitting in
-        omega (arith, chain-at-most (jobIn job) (at plan₀) (f .within) (ready₀ .in-range) (q .chain), f .passed .n, f .passed .ranged .n-high)
+    -- as many rounds as the excess before the first leave none
+    pub chained-enough : totalExcess (jobIn job) (at plan₀) ≤ k → SettledIn job b plan₀ plan s₀ s k
+    chained-enough l =
+        let within = ready₀ .fitting .within in
+        let few = chain-short (jobIn job) (at plan₀) within (ready₀ .in-range) (q .chain) in
+        record { chained = q; legal = finish-ends (jobIn job) (at plan₀) within (ready₀ .in-range) (q .chain) (omega (arith, l, few)) }
 
     module _ (r : Found) (plan′ s′ : List ℕ) (m : Stepped job b plan plan′ s s′ r) where
       module _ (v : Fpga) (A B : Crossbar) (e : r ≡ found.Over v A B) where

@@ -23,7 +23,7 @@ use Rattle.finish.specs.declared.Finish.{Finish}
 use Rattle.finish.specs.declared.Finish.the-variants.{Done, Refused}
 use Rattle.finish.specs.Plan.{dealt, PlannedIn, PlanCall}
 use Rattle.finish.proofs.Dealing.{dealt-alike}
-use Rattle.finish.proofs.Promises.{plan-done}
+use Rattle.finish.proofs.Promises.{done-planned}
 use Rattle.text.specs.Text.{upTo, puts}
 use Rattle.lines.specs.Lines.{refusalLine}
 use Rattle.list.specs.Listing.{planLines, Listed}
@@ -33,10 +33,10 @@ module _ (job plan₀ plan s₀ s : List ℕ) (r : Finish) (call : PlanCall job 
   -- k rounds from the excess e: what the lines need
   module _ (k e : ℕ) (q : r ≡ Done k e) where
     planned : PlannedIn job plan₀ plan s₀ s k e
-    planned = plan-done job plan₀ plan s₀ s k e (rw q at call) .1
+    planned = done-planned job plan₀ plan s₀ s k e (rw q at call) .1
 
     accepted : planVerdict job (length plan₀) (length s₀) ≡ verdict.Done
-    accepted = plan-done job plan₀ plan s₀ s k e (rw q at call) .0
+    accepted = done-planned job plan₀ plan s₀ s k e (rw q at call) .0
 
     pub job-passes : jobVerdict job ≡ verdict.Done
     unfolding planVerdict
