@@ -1,7 +1,6 @@
--- The audit is done exactly where the sheet is the one that is written for some legal balanced assignment; and a sheet has one meaning.
+-- The audit accepts what is written for a legal balanced assignment, and only that; and two sheets of a job that it accepts differ in meaning.
 -- Assumes nothing.
 use mathlib.Core.Path.{_≡_, ap, sym, _∙_}
-use mathlib.Core.Logic.{_↔_}
 use mathlib.Core.List.{List, [], _++_, append-nil}
 use Prim.Native.Nat.{ℕ, _+_, _*_, _/_, _%_, _≤_, _<_}
 use native.Mathlib.Omega.{arith}
@@ -24,7 +23,7 @@ use Rattle.sheet.specs.Sheet.{totalsCountAt, totalsAt, crossbarIn, totalIn, she
 use Rattle.sheet.proofs.Saying.{said-length, said-head, said-crossbar, said-totals-count, said-total, same-sheet}
 use Rattle.fit.specs.Fit.{Fit}
 use Rattle.fit.proofs.Parts.{fit-says, fit-alike}
-use Rattle.audit.specs.Audit.{numbersVerdict, againstVerdict, auditVerdict, writeSheetVerdict, Audited, IsWritten}
+use Rattle.audit.specs.Audit.{numbersVerdict, againstVerdict, auditVerdict, Audited}
 use Rattle.audit.proofs.Parts.{right-length, heads-say, totals-say, totals-alike}
 
 -- The audit accepts what is written for a legal balanced assignment.
@@ -32,7 +31,7 @@ module _ (job : List ℕ) (a : ℕ → ℕ) (done : jobVerdict job ≡ Done) whe
   whole : netsAt job ≤ length job
   whole = omega (arith, passes job done .long)
 
-  reads-back : Alike (jobIn job) (crossbarIn job (sheetOf job a)) a
+  pub reads-back : Alike (jobIn job) (crossbarIn job (sheetOf job a)) a
   reads-back = said-crossbar job a whole
 
   pub written-audits : Fit (jobIn job) a → auditVerdict job (sheetOf job a) ≡ Done
@@ -114,29 +113,3 @@ pub same-meaning : (job sheet₁ sheet₂ : List ℕ) → AreBytes job → AreBy
     → ((i : ℕ) → i < nIn job → crossbarIn job sheet₁ i ≡ crossbarIn job sheet₂ i) → sheet₁ ≡ sheet₂
 same-meaning job sheet₁ sheet₂ s s₁ s₂ d₁ d₂ h =
     audited-is-written job sheet₁ s s₁ (audited job sheet₁ d₁) ∙ same-sheet job _ _ h ∙ sym (audited-is-written job sheet₂ s s₂ (audited job sheet₂ d₂))
-
--- The audit is done exactly where the sheet is what the writer writes for some legal balanced assignment of the job.
-pub audit-exactly : (job sheet : List ℕ) → AreBytes job → AreBytes sheet → (auditVerdict job sheet ≡ Done) ↔ IsWritten job sheet
-audit-exactly job sheet s s₁ = (
-  λ done.
-      let e = audited job sheet done in
-      record { plan = crossbarIn job sheet; passes = e .passes; fit = e .fit; same = audited-is-written job sheet s s₁ e },
-  λ w. rw (w .same) (written-audits job (w .plan) (w .passes) (w .fit)),
-)
-
--- What the writer accepts is such an assignment, so the audit accepts what it writes.
-module _ (job plan : List ℕ) (room : ℕ) (done : writeSheetVerdict job plan room ≡ Done) where
-  its-job : jobVerdict job ≡ Done
-  unfolding writeSheetVerdict
-  its-job = then-first _ _ done
-
-  its-plan : Fit (jobIn job) (at plan)
-  unfolding writeSheetVerdict
-  its-plan = fit-says (jobIn job) (at plan) 13 .0 (then-second _ _ (then-second _ _ done))
-
-  pub writer-audits : auditVerdict job (sheetOf job (at plan)) ≡ Done
-  writer-audits = written-audits job (at plan) its-job its-plan
-
-  -- and reading it gives the assignment back
-  pub writer-reads-back : (i : ℕ) → i < nIn job → crossbarIn job (sheetOf job (at plan)) i ≡ at plan i
-  writer-reads-back = reads-back job (at plan) its-job

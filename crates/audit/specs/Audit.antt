@@ -88,9 +88,8 @@ pub record Audited (job sheet : List ℕ) : Type 0 where
   pub fit : Fit (jobIn job) (crossbarIn job sheet)
   pub totals : (x : ℕ) → x < cIn job → totalIn job sheet x ≡ total (jobIn job) (crossbarIn job sheet) x
 
--- the sheet is what the writer writes for some legal balanced assignment of the job
+-- the sheet is what the writer writes, with just room enough, for some assignment that it does not refuse
 pub record IsWritten (job sheet : List ℕ) : Type 0 where
-  pub plan : ℕ → ℕ
-  pub passes : jobVerdict job ≡ Done
-  pub fit : Fit (jobIn job) plan
-  pub same : sheet ≡ sheetOf job plan
+  pub plan : List ℕ
+  pub accepted : writeSheetVerdict job plan (sheetLength job) ≡ Done
+  pub same : sheet ≡ sheetOf job (at plan)
