@@ -5,7 +5,7 @@ ghost use lib.ListN.{length};
 ghost use Rattle.laws.specs.Row as row;
 ghost use Rattle.job.specs.Check.{WellFormed};
 ghost use Rattle.text.specs.Text.{upTo, puts};
-ghost use Rattle.list.specs.Listing.{planLines, Listed};
+ghost use Rattle.list.specs.Listing.{planLines, listingLong, Listed};
 use finish::Finish;
 use finish::calls;
 use job::Head;
@@ -19,6 +19,13 @@ use tally::count::totals_of;
 
 // Room for the listing of every job.
 pub const LISTING: usize = 100786;
+
+// So much must be lent.
+pub fn listing_room() -> usize
+    ensures { λ r. ⌜ r ≡ listingLong ⌝ }
+{
+    LISTING
+}
 
 // The listing of a plan of k rounds.
 fn plan_lines(

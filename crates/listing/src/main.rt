@@ -3,9 +3,11 @@ use libc::STDIN_FILENO;
 use libc::STDOUT_FILENO;
 use list::LISTING;
 use list::list;
+use list::listing_room;
 use text::so_far;
 
-// One byte more is read than the longest job has, so that a job that is too long is seen to be.
+// One byte more is read than the longest job has, so that a job that is too long is seen to be. The room's first `listing_room` bytes
+// are taken to be there, which is proved of this room and would not be of a shorter one.
 fn main() {
     let mut job = [0u8; 16395];
     let mut plan = [0u16; 4096];
@@ -13,5 +15,5 @@ fn main() {
     let mut room = [0u8; LISTING];
     let n = io::read_full(STDIN_FILENO, &mut job);
     let end = list(&job[..n], &mut plan, &mut scratch, &mut room);
-    io::write_all(STDOUT_FILENO, so_far(&room, end));
+    io::write_all(STDOUT_FILENO, so_far(&room[..listing_room()], end));
 }
