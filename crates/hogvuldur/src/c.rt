@@ -20,10 +20,10 @@ ghost use Rattle.audit.specs.Audit.{auditVerdict, readSheetVerdict, writeSheetV
 ghost use Rattle.evidence.specs.Evidence.{auditFault};
 ghost use Rattle.tell.specs.InC.{verdictInC, writtenInC, numbersInC, netInC, sectionInC, roundInC, finishInC, faultInC, roomInC, Told};
 use crate::check;
+use crate::finish;
+use crate::plan;
 use audit::audit::audit;
 use evidence::find_fault;
-use finish::calls::finish;
-use finish::calls::plan;
 use job::well_formed::check_job;
 use job_writer::write_job;
 use reader::net_of_job;

@@ -1,6 +1,10 @@
 // All calls in one place. Each is proved in the crate of its layer; c.rt has their C form.
 ghost use mathlib.Core.Path.{_≡_};
+ghost use Rattle.words.specs.Verdict.{pOf, qOf};
 ghost use Rattle.job.specs.Check.{jobVerdict};
+ghost use Rattle.finish.specs.Finish.{FinishCall};
+ghost use Rattle.finish.specs.Plan.{PlanCall};
+use finish::calls;
 use job::Checked;
 use job::well_formed::check_job;
 
@@ -15,8 +19,6 @@ pub use words::Refusal;
 pub use words::Verdict;
 pub use words::Written;
 pub use words::number_of;
-pub use words::p_of;
-pub use words::q_of;
 
 // The job: its reader, its net section, its writer.
 pub use job::NetEnds;
@@ -37,8 +39,6 @@ pub use spare::spare;
 
 // The assignment.
 pub use finish::Finish;
-pub use finish::calls::finish;
-pub use finish::calls::plan;
 pub use round::Round;
 pub use round::one_round;
 
@@ -57,4 +57,34 @@ pub fn check(job: &[u8]) -> Verdict
         Checked::Passed(_) => Verdict::Done,
         Checked::Refused(r) => Verdict::Refused(r),
     }
+}
+
+// Two pairs of calls have one type. Each says its promise here again, so that their names cannot be exchanged.
+
+// The first of a refusal's two places.
+pub fn p_of(v: Verdict) -> usize
+    ensures { λ r. ⌜ r ≡ pOf v ⌝ }
+{
+    words::p_of(v)
+}
+
+// The second.
+pub fn q_of(v: Verdict) -> usize
+    ensures { λ r. ⌜ r ≡ qOf v ⌝ }
+{
+    words::q_of(v)
+}
+
+// Rounds from the assignment that `plan` holds until it is legal.
+pub fn finish(job: &[u8], plan: &mut [u16], s: &mut [u16]) -> Finish
+    ensures { λ r. ⌜ FinishCall (now (job .entry)) (now (plan .entry)) (now (plan .exit)) (now (s .entry)) (now (s .exit)) r ⌝ }
+{
+    calls::finish(job, plan, s)
+}
+
+// The deal, then rounds until it is legal.
+pub fn plan(job: &[u8], plan: &mut [u16], s: &mut [u16]) -> Finish
+    ensures { λ r. ⌜ PlanCall (now (job .entry)) (now (plan .entry)) (now (plan .exit)) (now (s .entry)) (now (s .exit)) r ⌝ }
+{
+    calls::plan(job, plan, s)
 }

@@ -14,7 +14,8 @@ abbrev pub netIf : Bool → NetEnds → NetEnds
 netIf true ends = ends
 netIf false ends = NoNet
 
--- the two FPGAs of net i of a job with n nets; there is none at or above n, and none that the job does not hold
+-- the two FPGAs of net i, of n; none at or above n, and none whose bytes are not there. Whether n is the job's own is not asked: a caller
+-- that has n from `numbersOf` has net i of the job
 unfoldable pub netAt : List ℕ → ℕ → ℕ → NetEnds
 netAt job n i =
     netIf (ltb i n)
