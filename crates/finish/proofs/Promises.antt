@@ -100,11 +100,10 @@ module _ (job plan₀ plan s₀ s : List ℕ) (r : Finish) (call : FinishCall jo
       let v = round-accepted job plan₀ (length s₀) sound nets long within ranged in
       let a = by-rounds (Untouched plan₀ plan s₀ s) (FinishedIn job plan₀ plan s₀ s) r (rw v at (call .answered)) in
       let f = a .3 .finished in
-      let i = chain-improves (jobIn job) (at plan₀) within ranged (f .chain) in
       record {
         k = a .0;
         answer = a .2 ∙ ap (λ (e : ℕ). Done (a .0) e) (f .excess);
         few = chain-short (jobIn job) (at plan₀) within ranged (f .chain);
-        improves = i;
+        improves = chain-improves (jobIn job) (at plan₀) within ranged (f .chain);
         legal = f .legal;
       }

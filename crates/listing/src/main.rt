@@ -6,8 +6,8 @@ use list::list;
 use list::listing_room;
 use text::so_far;
 
-// One byte more is read than the longest job has, so that a job that is too long is seen to be. The room's first `listing_room` bytes
-// are taken to be there, which is proved of this room and would not be of a shorter one.
+// One byte more is read than the longest job has, so that a job that is too long is seen to be. What is printed is cut from the room's first
+// `listing_room` bytes: that the room has so many is proved, and so many are enough for every listing.
 fn main() {
     let mut job = [0u8; 16395];
     let mut plan = [0u16; 4096];

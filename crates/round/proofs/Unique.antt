@@ -75,18 +75,20 @@ module _ (job plan₀ plan plan′ s₀ s s′ : List ℕ) where
   pub untouched-twice : Untouched plan₀ plan s₀ s → Untouched plan₀ plan′ s₀ s′ → (plan ≡ plan′) × (s ≡ s′)
   untouched-twice one other = (one .plan-same ∙ sym (other .plan-same), one .scratch-same ∙ sym (other .scratch-same))
 
-  twice : (r : Round) → OneRound job plan₀ plan s₀ s r → OneRound job plan₀ plan′ s₀ s′ r → RoundTwice r job plan plan′ s s′
+  twice : (r : Round) → OneRound job plan₀ plan s₀ s r → OneRound job plan₀ plan′ s₀ s′ r → RoundTwice r job plan₀ plan plan′ s s′
   twice Settled one other = (one .memory .0 ∙ sym (other .memory .0), one .memory .1 .scratch-zero ∙ sym (other .memory .1 .scratch-zero))
   twice (Moved v A B) one other =
-      let start = ready job plan₀ s₀ (moved-says job plan₀ plan s₀ s v A B one .0) in (
-        accepted-twice (one .memory .1) (other .memory .1),
-        round-totals-once (jobIn job) (at plan₀) (at plan) (at plan′) (start .fitting .within) (start .in-range)
-            (moved-round job plan₀ plan s₀ s v A B one) (moved-round job plan₀ plan′ s₀ s′ v A B other),
-      )
+      let start = ready job plan₀ s₀ (moved-says job plan₀ plan s₀ s v A B one .0) in
+      record {
+        same = accepted-twice (one .memory .1) (other .memory .1);
+        elsewhere = λ i l a b. one .memory .0 .moved .stay i l a b ∙ sym (other .memory .0 .moved .stay i l a b);
+        totals = round-totals-once (jobIn job) (at plan₀) (at plan) (at plan′) (start .fitting .within) (start .in-range)
+            (moved-round job plan₀ plan s₀ s v A B one) (moved-round job plan₀ plan′ s₀ s′ v A B other);
+      }
   twice (Refused r) one other = untouched-twice (one .memory) (other .memory)
 
   -- the answer is the same, and so is lent memory but for the nets that the round has moved
-  pub round-once : (r r′ : Round) → OneRound job plan₀ plan s₀ s r → OneRound job plan₀ plan′ s₀ s′ r′ → SameRound job plan plan′ s s′ r r′
+  pub round-once : (r r′ : Round) → OneRound job plan₀ plan s₀ s r → OneRound job plan₀ plan′ s₀ s′ r′ → SameRound job plan₀ plan plan′ s s′ r r′
   round-once r r′ one other =
       let e = one .answer ∙ sym (other .answer) in
       record { answer = e; memory = twice r one (subst (OneRound job plan₀ plan′ s₀ s′) (sym e) other) }
