@@ -6,12 +6,11 @@ use mathlib.Core.List.{List}
 use Prim.Native.Nat.{ℕ, _≤_, _<_}
 use native.Mathlib.Omega.{arith}
 use lib.ListN.{length}
-use borrow.Author.Tests.{le-ltb}
 use Rattle.laws.specs.Row.{at, row}
 use Rattle.laws.proofs.Row.{length-row, row-at}
 use Rattle.words.specs.declared.Verdict.the-variants.{Done}
 use Rattle.words.specs.Number.{AreBytes}
-use Rattle.words.proofs.Order.{then-first, then-second, then-done, passes}
+use Rattle.words.proofs.Order.{then-first, then-second, then-done, long-enough}
 use Rattle.board.specs.Board.{Alike}
 use Rattle.job.specs.Job.{nIn, jobIn}
 use Rattle.job.specs.Check.{jobVerdict}
@@ -43,7 +42,7 @@ module _ (job plan : List ℕ) (room : ℕ) (done : writeSheetVerdict job plan r
 module _ (job plan : List ℕ) (room : ℕ) (sound : jobVerdict job ≡ Done) (nets : nIn job ≤ length plan) (long : sheetLength job ≤ room) where
   lent : lentVerdict job (length plan) room ≡ Done
   unfolding lentVerdict
-  lent = then-done _ _ (passes _ 11 _ (le-ltb _ _ nets)) (passes _ 11 _ (le-ltb _ _ long))
+  lent = then-done _ _ (long-enough _ _ .1 nets) (long-enough _ _ .1 long)
 
   pub writer-accepts-fit : (writeSheetVerdict job plan room ≡ Done) ↔ Fit (jobIn job) (at plan)
   unfolding writeSheetVerdict

@@ -1,6 +1,6 @@
 -- What the contracts of finish and plan promise: condition 2, condition 3 over all rounds, and how few the rounds are.
 -- Assumes nothing.
-use mathlib.Core.Path.{_≡_, refl, ap, sym, _∙_}
+use mathlib.Core.Path.{_≡_, refl, ap, _∙_}
 use mathlib.Core.List.{List}
 use Prim.Native.Nat.{ℕ, _*_, _≤_, _<_}
 use native.Mathlib.Omega.{arith}
@@ -62,16 +62,16 @@ module _ (job plan₀ plan s₀ s : List ℕ) (r : Finish) (call : PlanCall job 
 
 -- what is done was accepted
 module _ (kept : Type 0) (made : ℕ → ℕ → Type 0) (k e : ℕ) where
-  by-done : (v w : Verdict) → v ≡ w → AnsweredBy v (Done k e) kept made → (w ≡ verdict.Done) × made k e
-  by-done verdict.Done w q a = (sym q, a)
-  by-done (verdict.Refused p) w q a = absurd a
+  by-done : (v : Verdict) → AnsweredBy v (Done k e) kept made → (v ≡ verdict.Done) × made k e
+  by-done verdict.Done a = (refl, a)
+  by-done (verdict.Refused p) a = absurd a
 
 module _ (job plan₀ plan s₀ s : List ℕ) (k e : ℕ) where
   pub done-planned : PlanCall job plan₀ plan s₀ s (Done k e) → (planVerdict job (length plan₀) (length s₀) ≡ verdict.Done) × PlannedIn job plan₀ plan s₀ s k e
-  done-planned call = by-done (Untouched plan₀ plan s₀ s) (PlannedIn job plan₀ plan s₀ s) k e (planVerdict job (length plan₀) (length s₀)) _ refl (call .answered)
+  done-planned call = by-done (Untouched plan₀ plan s₀ s) (PlannedIn job plan₀ plan s₀ s) k e (planVerdict job (length plan₀) (length s₀)) (call .answered)
 
   pub done-finished : FinishCall job plan₀ plan s₀ s (Done k e) → (roundVerdict job plan₀ (length s₀) ≡ verdict.Done) × FinishedIn job plan₀ plan s₀ s k e
-  done-finished call = by-done (Untouched plan₀ plan s₀ s) (FinishedIn job plan₀ plan s₀ s) k e (roundVerdict job plan₀ (length s₀)) _ refl (call .answered)
+  done-finished call = by-done (Untouched plan₀ plan s₀ s) (FinishedIn job plan₀ plan s₀ s) k e (roundVerdict job plan₀ (length s₀)) (call .answered)
 
 -- condition 3 over the rounds of a finish that is not refused
 module _ (job plan₀ plan s₀ s : List ℕ) (k e : ℕ) (call : FinishCall job plan₀ plan s₀ s (Done k e)) where

@@ -4,14 +4,14 @@ use mathlib.Core.Path.{_≡_, refl}
 use mathlib.Core.List.{List, [], _∷_, _++_}
 use Prim.Native.Nat.{ℕ, _+_, _*_, _≤_, _<_}
 use lib.ListN.{length, take, drop}
-use borrow.Author.Tests.{lt-ltb, le-ltb, ltb-false}
+use borrow.Author.Tests.{lt-ltb, le-ltb}
 use Rattle.words.specs.declared.Refusal.{Refusal}
 use Rattle.words.specs.declared.Verdict.the-variants.{Done, Refused}
 use Rattle.words.specs.Verdict.{refuse, refuseIf, _then_, nowhere}
 use Rattle.words.specs.Number.{bytes}
 use Rattle.words.specs.Lent.{onto}
 use Rattle.words.proofs.Bytes.{write-more}
-use Rattle.words.proofs.Order.{then-first, then-second, passed}
+use Rattle.words.proofs.Order.{then-first, then-second, long-enough}
 use Rattle.job.specs.Job.{headLong}
 use Rattle.job.specs.Check.{rangesVerdict, netsVerdict}
 use Rattle.job_writer.specs.Write.{firstOf, secondOf, writtenLength, writeVerdict, jobOf}
@@ -43,11 +43,11 @@ module _ (f c m n : ℕ) (ends : List ℕ) (room : ℕ) where
 
     pub wrote-enough : 2 * n ≤ length ends
     unfolding writeVerdict
-    wrote-enough = ltb-false _ _ (passed _ 11 _ (then-first _ _ (then-second _ _ done)))
+    wrote-enough = long-enough _ _ .0 (then-first _ _ (then-second _ _ done))
 
     pub wrote-room : writtenLength n ≤ room
     unfolding writeVerdict
-    wrote-room = ltb-false _ _ (passed _ 11 _ (then-first _ _ (then-second _ _ (then-second _ _ done))))
+    wrote-room = long-enough _ _ .0 (then-first _ _ (then-second _ _ (then-second _ _ done)))
 
     pub wrote-nets : netsVerdict f (firstOf ends) (secondOf ends) n ≡ Done
     unfolding writeVerdict

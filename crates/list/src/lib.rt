@@ -20,7 +20,7 @@ use tally::count::totals_of;
 // Room for the listing of every job.
 pub const LISTING: usize = 100786;
 
-// So much must be lent.
+// So much room holds every listing.
 pub fn listing_room() -> usize
     ensures { λ r. ⌜ r ≡ listingLong ⌝ }
 {

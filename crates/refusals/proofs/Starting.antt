@@ -4,11 +4,11 @@ use mathlib.Core.Path.{_≡_, sym, _∙_}
 use mathlib.Core.List.{List}
 use Prim.Native.Nat.{ℕ, _≤_, _<_}
 use lib.ListN.{length}
-use borrow.Author.Tests.{lt-ltb, le-ltb, ltb-false}
+use borrow.Author.Tests.{lt-ltb, le-ltb}
 use Rattle.laws.specs.Row.{at}
 use Rattle.words.specs.declared.Verdict.the-variants.{Done}
 use Rattle.words.specs.Verdict.{refuse, refuseIf, _then_, nowhere}
-use Rattle.words.proofs.Order.{then-first, then-second, then-next, passed}
+use Rattle.words.proofs.Order.{then-first, then-second, then-done, then-next, long-enough}
 use Rattle.job.specs.declared.Head.{Head}
 use Rattle.job.specs.declared.Checked.{Checked}
 use Rattle.job.specs.declared.Checked.the-variants as checked
@@ -32,12 +32,12 @@ module _ (n planLength scratchLength : ℕ) where
   scratch-short h l = simp (le-ltb _ _ h, lt-ltb _ _ l)
 
   pub room-enough : n ≤ planLength → scratchLong ≤ scratchLength → roomVerdict n planLength scratchLength ≡ Done
-  unfolding roomVerdict refuseIf _then_
-  room-enough h l = simp (le-ltb _ _ h, le-ltb _ _ l)
+  unfolding roomVerdict
+  room-enough h l = then-done _ _ (long-enough _ _ .1 h) (long-enough _ _ .1 l)
 
   pub room-done : roomVerdict n planLength scratchLength ≡ Done → (n ≤ planLength) × (scratchLong ≤ scratchLength)
   unfolding roomVerdict
-  room-done h = (ltb-false _ _ (passed _ 11 _ (then-first _ _ h)), ltb-false _ _ (passed _ 11 _ (then-second _ _ h)))
+  room-done h = (long-enough _ _ .0 (then-first _ _ h), long-enough _ _ .0 (then-second _ _ h))
 
 -- ---- refusals 1 to 12
 

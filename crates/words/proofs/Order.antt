@@ -7,11 +7,12 @@ use Prim.Native.Nat.{ℕ, zero, suc, _+_, _≤_, _<_}
 use native.Mathlib.Nat.{eq-or-lt-of-le, le-of-suc-le-suc}
 use native.Mathlib.Numerals.{add-one}
 use native.Mathlib.Omega.{arith}
+use borrow.Author.Tests.{le-ltb, ltb-false}
 use Rattle.words.specs.declared.Place.{Place}
 use Rattle.words.specs.declared.Refusal.{Refusal}
 use Rattle.words.specs.declared.Verdict.{Verdict}
 use Rattle.words.specs.declared.Verdict.the-variants.{Done, Refused}
-use Rattle.words.specs.Verdict.{refuse, refuseIf, _then_, firstRefusal}
+use Rattle.words.specs.Verdict.{refuse, refuseIf, tooShort, _then_, firstRefusal}
 
 -- ---- two verdicts, one after the other
 
@@ -50,6 +51,10 @@ passes b k place h = rw h
 pub refuses : (b : Bool) (k : ℕ) (place : Place) → b ≡ true → refuseIf b k place ≡ refuse k place
 unfolding refuseIf
 refuses b k place h = rw h
+
+-- 11 is not given exactly where what is lent is long enough
+pub long-enough : (long least : ℕ) → (tooShort long least ≡ Done) ↔ (least ≤ long)
+long-enough long least = (λ done. ltb-false _ _ (passed _ 11 _ done), λ enough. passes _ 11 _ (le-ltb _ _ enough))
 
 -- ---- many verdicts, in order
 

@@ -2,8 +2,8 @@
 use borrow.Author.Needs.{needs}
 use Rattle.sheet_calls.proofs.read_lent.Statement.{statement}
 use Rattle.sheet_calls.proofs.read_lent.Tie as tie
-use borrow.Author.Tests.{lt-ltb, le-ltb}
-use Rattle.words.proofs.Order.{passes, refuses}
+use borrow.Author.Tests.{lt-ltb}
+use Rattle.words.proofs.Order.{refuses, long-enough}
 use mathlib.Core.Path.{refl, sym, _∙_}
 
 refuse-requires : tie.Need-refuse-requires
@@ -19,7 +19,7 @@ same-length : tie.Need-same-length
 same-length c = search needs
 
 returns-2 : tie.Need-returns-2
-returns-2 c = (sym (passes _ 11 _ (le-ltb _ _ (rw (c .before .before .before .before .before .before .before .before .before .pre .0 .n) at (c .before .before .before .before .if1 .left)))), c .before .before .numbers-of .ensures)
+returns-2 c = (sym (long-enough _ _ .1 (rw (c .before .before .before .before .before .before .before .before .before .pre .0 .n) at (c .before .before .before .before .if1 .left))), c .before .before .numbers-of .ensures)
 
 pub read-lent-spec : {M : Type 1} → statement M
 read-lent-spec =

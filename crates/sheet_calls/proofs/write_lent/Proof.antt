@@ -2,8 +2,7 @@
 use borrow.Author.Needs.{needs}
 use Rattle.sheet_calls.proofs.write_lent.Statement.{statement}
 use Rattle.sheet_calls.proofs.write_lent.Tie as tie
-use Rattle.words.proofs.Order.{then-refused, then-next, then-first, then-second, passed}
-use borrow.Author.Tests.{ltb-false}
+use Rattle.words.proofs.Order.{then-refused, then-next, then-first, then-second, long-enough}
 use Rattle.audit.specs.Audit.{lentVerdict}
 use mathlib.Core.Path.{sym, _∙_}
 
@@ -24,7 +23,7 @@ write-fit-requires : tie.Need-write-fit-requires
 unfolding lentVerdict
 write-fit-requires c κs = let p = c .before .before .before .before .before .before .before .pre in
     let done = sym (c .before .before .before .check-lent .ensures) ∙ c .before .enum-told2 .given .1 in
-    ((p, rw (p .n) (ltb-false _ _ (passed _ 11 _ (then-first _ _ done)))), ltb-false _ _ (passed _ 11 _ (then-second _ _ done)))
+    ((p, rw (p .n) (long-enough _ _ .0 (then-first _ _ done))), long-enough _ _ .0 (then-second _ _ done))
 
 same-length : tie.Need-same-length
 same-length c = search needs
