@@ -16,15 +16,15 @@ uint64_t plain_excess(const struct job *job, const uint16_t *load)
 {
     uint64_t excess = 0;
     for (unsigned i = 0; i < job->f * job->c; i++)
-        if (load[i] > job->m)
-            excess += load[i] - job->m;
+        if (load[i] > job->width)
+            excess += load[i] - job->width;
     return excess;
 }
 
 unsigned plain_crowded(const struct job *job, const uint16_t *row)
 {
     unsigned x = 0;
-    while (x < job->c && row[x] <= job->m)
+    while (x < job->c && row[x] <= job->width)
         x++;
     return x;
 }
@@ -32,7 +32,7 @@ unsigned plain_crowded(const struct job *job, const uint16_t *row)
 unsigned plain_with_room(const struct job *job, const uint16_t *row)
 {
     unsigned x = 0;
-    while (x < job->c && row[x] >= job->m)
+    while (x < job->c && row[x] >= job->width)
         x++;
     return x;
 }

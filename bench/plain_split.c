@@ -146,7 +146,7 @@ const uint8_t *plain_split(const struct job *job, const struct plain_ends *nets,
         if (seen[v] || degree[v] == 0)
             continue;
         find_group(v, seen, &group);
-        split_group(&group, k, job->m, more);
+        split_group(&group, k, job->width, more);
         /* Groups with an odd number of nets favour A and B in turn, so that the totals stay within one. */
         more ^= group.nets % 2;
     }

@@ -2,9 +2,10 @@
  * hogvuldur.h: nets to crossbars of a logic emulator board, for C programs.
  *
  * A board has f FPGAs and c crossbars, each numbered from 0, and m wires from each FPGA to each
- * crossbar. A job adds n nets, numbered from 0, each between two different FPGAs. An assignment
- * gives each net its crossbar. Planned assignments never put more than m nets of one FPGA on one
- * crossbar, and the crossbars' totals are within one of each other.
+ * crossbar. An even number of them is used, the usable width w: m if m is even, m - 1 if it is
+ * odd. A job adds n nets, numbered from 0, each between two different FPGAs. An assignment gives
+ * each net its crossbar. Planned assignments never put more than w nets of one FPGA on one
+ * crossbar, and the crossbars' totals are within one of each other. Files and answers hold m.
  *
  * Link with libhogvuldur.a (x86-64 Linux). Every call is proved to meet its contract for every
  * input that keeps to the rules of memory below.
@@ -34,19 +35,20 @@
  *    3  f outside 1 to 256: byte 2
  *    4  c outside 1 to 128: byte 4
  *    5  m is 0 or above 64: byte 6
- *    6  m odd: byte 6
+ *    6  m is 1, so that no wire is usable: byte 6
  *    7  n above 4,096: byte 8
  *    1  job shorter than 10 + 4n: its length
  *    8  job longer than 10 + 4n: byte 10 + 4n
  *    9  a net names an FPGA at or above f: the net
  *   10  a net has the same FPGA twice: the net (nets in order, each for 9 and then 10)
  *   11  a lent buffer is too short: 0
- *   12  some FPGA has more than m times c nets: lowest such FPGA
+ *   12  some FPGA has more than w times c nets: lowest such FPGA. No assignment keeps all loads
+ *       within w then; for odd m there may be one within m
  *   13  a crossbar number in a lent assignment at or above c: lowest such net
  *   21  sheet length is not 12 + 2n + 2c: its length
  *   22  a sheet count, f, c or m differs from the job: byte of the first
  *   23  a sheet's crossbar number at or above c: lowest such net
- *   24  a load above m: p the lowest FPGA, q the lowest crossbar there
+ *   24  a load above w: p the lowest FPGA, q the lowest crossbar there
  *   25  totals more than 1 apart: lowest crossbar 2 or more below the greatest
  *   26  a written total is wrong: lowest such crossbar
  */
@@ -65,6 +67,9 @@ extern "C" {
 #define HOGVULDUR_MOST_WIRES 64
 #define HOGVULDUR_MOST_NETS 4096
 
+/* The usable width w of m wires. */
+#define HOGVULDUR_USABLE_WIDTH(m) ((m) - (m) % 2)
+
 /* The least length of scratch, in numbers of two bytes. */
 #define HOGVULDUR_SCRATCH 32768
 
@@ -82,7 +87,7 @@ enum {
     HOGVULDUR_F_OUT_OF_RANGE = 3,
     HOGVULDUR_C_OUT_OF_RANGE = 4,
     HOGVULDUR_M_OUT_OF_RANGE = 5,
-    HOGVULDUR_M_ODD = 6,
+    HOGVULDUR_M_ONE = 6,
     HOGVULDUR_TOO_MANY_NETS = 7,
     HOGVULDUR_JOB_TOO_LONG = 8,
     HOGVULDUR_NO_SUCH_FPGA = 9,
@@ -140,8 +145,8 @@ uint16_t hogvuldur_write_job(uint16_t f, uint16_t c, uint16_t m, uint16_t n,
 /*
  * One round on the assignment in the first n numbers of `plan`. Refusals 1 to 13.
  *   0, 0, 0, 0   settled: the assignment is legal; only scratch is written
- *   1, v, A, B   moved: v is the lowest FPGA with a load above m, A its lowest crossbar with a load
- *                above m, B its lowest with a load below m. Nets of A and B are spread anew over A
+ *   1, v, A, B   moved: v is the lowest FPGA with a load above w, A its lowest crossbar with a load
+ *                above w, B its lowest with a load below w. Nets of A and B are spread anew over A
  *                and B; the new assignment replaces the old.
  */
 uint16_t hogvuldur_one_round(const uint8_t *job, size_t job_length,
@@ -196,7 +201,7 @@ void hogvuldur_evidence(const uint8_t *job, size_t job_length,
                         const uint8_t *sheet, size_t sheet_length, uint64_t answer[4]);
 
 /*
- * Spare of FPGA v: m times c minus its degree. Refusals 1 to 10 and 12 for the job; then 9 for v at
+ * Spare of FPGA v: w times c minus its degree. Refusals 1 to 10 and 12 for the job; then 9 for v at
  * or above f, p being v.
  */
 uint16_t hogvuldur_spare(const uint8_t *job, size_t job_length, uint16_t v, uint64_t answer[4]);

@@ -76,7 +76,8 @@ static void jobs(void)
     IS(check_with(3, 0), HOGVULDUR_F_OUT_OF_RANGE);
     IS(check_with(5, 129), HOGVULDUR_C_OUT_OF_RANGE);
     IS(check_with(7, 65), HOGVULDUR_M_OUT_OF_RANGE);
-    IS(check_with(7, 1), HOGVULDUR_M_ODD);
+    IS(check_with(7, 1), HOGVULDUR_M_ONE);
+    IS(check_with(7, 63), HOGVULDUR_DONE);
     IS(check_with(8, 17), HOGVULDUR_TOO_MANY_NETS);
     IS(check_with(9, NETS - 1), HOGVULDUR_JOB_TOO_LONG);
     IS(check_with(11, 2), HOGVULDUR_NO_SUCH_FPGA);
@@ -113,6 +114,11 @@ static void plans(void)
     STANDS(HOGVULDUR_P, 2);
     IS(hogvuldur_spare(job, job_long, 1, answer), HOGVULDUR_DONE);
     STANDS(HOGVULDUR_NETS_LEFT, 2);
+    job[7] = 5;
+    IS(hogvuldur_spare(job, job_long, 1, answer), HOGVULDUR_DONE);
+    STANDS(HOGVULDUR_NETS_LEFT, 3 * HOGVULDUR_USABLE_WIDTH(5) - NETS);
+    hogvuldur_numbers(job, job_long, answer);
+    STANDS(HOGVULDUR_M, 5);
     make_job(2, 5);
     IS(hogvuldur_plan(job, job_long, plan, 5, scratch, HOGVULDUR_SCRATCH, answer), HOGVULDUR_DEGREE_ABOVE_LIMIT);
 }

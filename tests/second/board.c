@@ -14,7 +14,7 @@ struct verdict check_degrees(const struct job *job)
     unsigned degrees[MOST_FPGAS];
     count_degrees(job, degrees);
     for (unsigned fpga = 0; fpga < job->f; fpga++)
-        if (degrees[fpga] > job->m * job->c) return refuse(12, fpga, 0);
+        if (degrees[fpga] > job->width * job->c) return refuse(12, fpga, 0);
     return done;
 }
 
@@ -44,7 +44,7 @@ unsigned excess(const struct job *job, const struct loads *loads, unsigned fpga)
 {
     unsigned sum = 0;
     for (unsigned crossbar = 0; crossbar < job->c; crossbar++)
-        if (loads->load[fpga][crossbar] > job->m) sum += loads->load[fpga][crossbar] - job->m;
+        if (loads->load[fpga][crossbar] > job->width) sum += loads->load[fpga][crossbar] - job->width;
     return sum;
 }
 

@@ -86,7 +86,7 @@ static unsigned spare(const struct job *job, unsigned fpga)
 {
     unsigned degrees[MOST_FPGAS];
     count_degrees(job, degrees);
-    return job->m * job->c - degrees[fpga];
+    return job->width * job->c - degrees[fpga];
 }
 
 void case_spare(struct file file, unsigned fpga)

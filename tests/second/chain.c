@@ -158,6 +158,7 @@ bool case_plan(struct file file, struct list plan, size_t scratch_length)
     struct job job;
     struct list start = {dealt, plan.length};
     struct verdict verdict = check_plan(file, plan, scratch_length, &job);
+    cover_degrees(CALL_PLAN, &job, verdict.number);
     if (verdict.number == 0) {
         memcpy(dealt, plan.numbers, plan.length * sizeof *dealt);
         deal(&job, dealt);

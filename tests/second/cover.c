@@ -17,12 +17,15 @@ static struct {
     unsigned least[4], most[4]; /* of f, c, m and n */
 } seen;
 
+/* By call, of boards with an odd m: planned with a degree at the limit, and refused with one above it. */
+static unsigned long odd_at_limit[CALL_COUNT + 1], odd_above[CALL_COUNT + 1];
+
 void cover_answer(unsigned call, unsigned refusal)
 {
     answers[call][refusal]++;
 }
 
-/* Whether the round put a new pair over m. */
+/* Whether the round put a new pair over the width. */
 static bool newly_over(const struct round *round)
 {
     static struct loads before, after;
@@ -31,7 +34,7 @@ static bool newly_over(const struct round *round)
     count_loads(job, round->after, &after);
     for (unsigned fpga = 0; fpga < job->f; fpga++)
         for (unsigned crossbar = 0; crossbar < job->c; crossbar++)
-            if (before.load[fpga][crossbar] <= job->m && after.load[fpga][crossbar] > job->m) return true;
+            if (before.load[fpga][crossbar] <= job->width && after.load[fpga][crossbar] > job->width) return true;
     return false;
 }
 
@@ -49,8 +52,15 @@ static bool is_full(const struct job *job)
     unsigned degrees[MOST_FPGAS];
     count_degrees(job, degrees);
     for (unsigned fpga = 0; fpga < job->f; fpga++)
-        if (degrees[fpga] == job->m * job->c) return true;
+        if (degrees[fpga] == job->width * job->c) return true;
     return false;
+}
+
+void cover_degrees(unsigned call, const struct job *job, unsigned refusal)
+{
+    if (job->m % 2 == 0) return;
+    odd_at_limit[call] += refusal == 0 && is_full(job);
+    odd_above[call] += refusal == 12;
 }
 
 static void cover_numbers(const struct job *job)
@@ -82,12 +92,14 @@ void cover_print(void)
             if (answers[call][refusal] > 0) printf(" %u: %lu", refusal, answers[call][refusal]);
         putchar('\n');
     }
-    printf("  rounds %lu: with one odd group %lu, with more %lu, with a new pair over m %lu\n", seen.rounds,
+    printf("  rounds %lu: with one odd group %lu, with more %lu, with a new pair over the width %lu\n", seen.rounds,
            seen.with_odd_group, seen.with_odd_groups, seen.newly_over);
-    printf("  chains %lu: settled at once %lu, of %d rounds or more %lu, with a degree at m times c %lu\n", seen.chains,
+    printf("  chains %lu: settled at once %lu, of %d rounds or more %lu, with a degree at the limit %lu\n", seen.chains,
            seen.settled, MANY_ROUNDS, seen.many, seen.full);
     printf("  of their jobs: f %u to %u, c %u to %u, m %u to %u, n %u to %u\n", seen.least[0], seen.most[0],
            seen.least[1], seen.most[1], seen.least[2], seen.most[2], seen.least[3], seen.most[3]);
+    printf("  odd m: at the limit planned %lu, listed %lu; above it refused %lu, listed %lu\n", odd_at_limit[CALL_PLAN],
+           odd_at_limit[CALL_LISTING], odd_above[CALL_PLAN], odd_above[CALL_LISTING]);
     printf("  longest chain %" PRIu64 " rounds, largest starting excess %" PRIu64 "\n", seen.most_rounds,
            seen.most_excess);
 }
@@ -132,8 +144,11 @@ void cover_demand(bool with_listing)
     demand(seen.many > 0, "a chain of many rounds");
     demand(seen.with_odd_group > 0, "a round with an odd group");
     demand(seen.with_odd_groups > 0, "a round with several odd groups");
-    demand(seen.newly_over > 0, "a round with a new pair over m");
-    demand(seen.full > 0, "a degree of m times c");
+    demand(seen.newly_over > 0, "a round with a new pair over the width");
+    demand(seen.full > 0, "a degree at the limit");
+    demand(odd_at_limit[CALL_PLAN] > 0 && odd_above[CALL_PLAN] > 0, "a plan for odd m, at and above the limit");
+    demand(!with_listing || (odd_at_limit[CALL_LISTING] > 0 && odd_above[CALL_LISTING] > 0),
+           "a listing for odd m, at and above the limit");
     for (int i = 0; i < 4; i++)
         demand(seen.least[i] == least[i] && seen.most[i] == most[i], "the smallest and largest of f, c, m and n");
 }

@@ -7,6 +7,9 @@
 /* A call was to answer with this refusal, or 0 for done. */
 void cover_answer(unsigned call, unsigned refusal);
 
+/* A call was to plan this job, or to refuse it. */
+void cover_degrees(unsigned call, const struct job *job, unsigned refusal);
+
 /* A round kept the rule. */
 void cover_round(const struct round *round);
 

@@ -24,12 +24,17 @@ size_t job_size(unsigned n)
     return JOB_HEAD + 4 * (size_t)n;
 }
 
+unsigned usable_width(unsigned m)
+{
+    return m % 2 == 0 ? m : m - 1;
+}
+
 struct verdict check_numbers(unsigned f, unsigned c, unsigned m, unsigned n)
 {
     if (f < 1 || f > MOST_FPGAS) return refuse(3, 2, 0);
     if (c < 1 || c > MOST_CROSSBARS) return refuse(4, 4, 0);
     if (m < 1 || m > MOST_WIRES) return refuse(5, 6, 0);
-    if (m % 2 == 1) return refuse(6, 6, 0);
+    if (m == 1) return refuse(6, 6, 0);
     if (n > MOST_NETS) return refuse(7, 8, 0);
     return done;
 }
@@ -57,7 +62,7 @@ static struct verdict check_file(struct file file)
 
 struct verdict read_job(struct file file, struct job *job)
 {
-    const struct job none = {0, 0, 0, 0, NULL};
+    const struct job none = {0, 0, 0, 0, 0, NULL};
     struct verdict verdict = check_file(file);
     *job = none;
     if (verdict.number != 0) return verdict;
@@ -65,6 +70,7 @@ struct verdict read_job(struct file file, struct job *job)
     job->c = file_number(file, 4);
     job->m = file_number(file, 6);
     job->n = file_number(file, 8);
+    job->width = usable_width(job->m);
     job->nets = file.bytes + JOB_HEAD;
     return verdict;
 }

@@ -30,6 +30,7 @@ struct verdict {
 /* A job that is not refused. */
 struct job {
     unsigned f, c, m, n;
+    unsigned width; /* the usable width: what every rule but the files' own numbers reads for m */
     const uint8_t *nets;
 };
 
@@ -42,13 +43,16 @@ unsigned file_number(struct file file, size_t place);
 
 void put_number(uint8_t *at, unsigned number);
 
+/* Document 02, ticket 1: m if even, m - 1 if odd. */
+unsigned usable_width(unsigned m);
+
 /* Refusals 3 to 7 of a board's numbers. */
 struct verdict check_numbers(unsigned f, unsigned c, unsigned m, unsigned n);
 
 /* Refusals 9 and 10 of one net. */
 struct verdict check_net(unsigned f, unsigned net, unsigned x, unsigned y);
 
-/* Refusals 1 to 10. Of a refused job the four numbers are 0. */
+/* Refusals 1 to 10. Of a refused job all numbers are 0. */
 struct verdict read_job(struct file file, struct job *job);
 
 /* The FPGA at end 0 or 1 of a net. */

@@ -18,10 +18,10 @@ static uint16_t numbers[MOST_NETS + BEYOND];
 
 static const unsigned values_f[] = {0, 1, 2, 256, 257, 512, 65535};
 static const unsigned values_c[] = {0, 1, 2, 128, 129, 256, 65535};
-static const unsigned values_m[] = {0, 1, 2, 63, 64, 65, 66, 256, 258, 65535};
+static const unsigned values_m[] = {0, 1, 2, 3, 63, 64, 65, 66, 256, 258, 65535};
 static const unsigned values_n[] = {0, 1, 2, 4096, 4097, 65535};
 
-enum { COUNT_F = 7, COUNT_C = 7, COUNT_M = 10, COUNT_N = 6 };
+enum { COUNT_F = 7, COUNT_C = 7, COUNT_M = 11, COUNT_N = 6 };
 
 /* A job with these numbers, of the length that n asks for as far as there is memory. */
 static struct file limit_job(const unsigned number[4])

@@ -52,6 +52,7 @@ static bool expect_text(struct file input, struct verdict *verdict)
     struct job job;
     *verdict = read_job(file, &job);
     if (verdict->number == 0) *verdict = check_degrees(&job);
+    cover_degrees(CALL_LISTING, &job, verdict->number);
     bool planned = case_plan(file, plan, LEAST_SCRATCH);
     expected.length = 0;
     if (verdict->number != 0)
@@ -110,7 +111,7 @@ static void refused_listings(char *const command[])
     static const struct {
         size_t place;
         unsigned number;
-    } faults[] = {{0, 2}, {2, 0}, {2, 257}, {4, 0}, {4, 129}, {6, 0}, {6, 66}, {6, 3}, {8, 4097}, {8, 4}, {8, 2},
+    } faults[] = {{0, 2}, {2, 0}, {2, 257}, {4, 0}, {4, 129}, {6, 0}, {6, 66}, {6, 1}, {8, 4097}, {8, 4}, {8, 2},
                   {18, 9}, {20, 9}, {18, 2}, {4, 1}};
     static const uint8_t right[] = {0, 3, 0, 3, 0, 2, 0, 2, 0, 3, 0, 0, 0, 1, 0, 0, 0, 1, 0, 0, 0, 2};
     uint8_t bytes[sizeof right];
@@ -122,6 +123,18 @@ static void refused_listings(char *const command[])
     }
     memcpy(bytes, right, sizeof bytes);
     for (input.length = 0; input.length <= sizeof bytes; input.length += 2) case_listing(command, input);
+}
+
+/* Three wires, of which two are usable: four nets between two FPGAs are the limit of two crossbars, one more is refused. */
+static void odd_listings(char *const command[])
+{
+    uint8_t bytes[JOB_HEAD + 4 * 5];
+    const uint16_t ends[2 * 5] = {0, 1, 1, 0, 0, 1, 1, 0, 0, 1};
+    for (unsigned nets = 3; nets <= 5; nets++) {
+        const unsigned number[4] = {2, 2, 3, nets};
+        struct file input = {bytes, put_job(bytes, number, ends)};
+        case_listing(command, input);
+    }
 }
 
 /* The most nets, and inputs that are longer than what the program reads. */
@@ -149,6 +162,7 @@ void run_listings(char *const command[], unsigned long boards, uint64_t seed)
     report_part("listing", 0);
     chance_start(seed, UINT64_MAX);
     refused_listings(command);
+    odd_listings(command);
     long_listings(command);
     for (unsigned long i = 0; i < boards; i++) {
         report_part("listing", i + 1);

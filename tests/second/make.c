@@ -12,7 +12,7 @@ enum shape { PAIRS, STAR, WALKS, SHAPES };
 struct making {
     struct made *made;
     unsigned degree[MOST_FPGAS];
-    unsigned limit; /* of a degree: m times c */
+    unsigned limit; /* of a degree: the usable width times c */
     unsigned busy[MOST_FPGAS];
     unsigned busy_count;
     unsigned target; /* of n */
@@ -21,23 +21,23 @@ struct making {
 static void choose_numbers(struct made *made, enum size size, unsigned *target)
 {
     static const unsigned most[4][4] = {{6, 4, 4, 14}, {20, 8, 8, 150}, {100, 32, 16, 1200}, {256, 128, 64, 4096}};
-    static const unsigned edge_f[] = {1, 2, 3, 255, 256}, edge_c[] = {1, 2, 127, 128}, edge_m[] = {2, 64};
+    static const unsigned edge_f[] = {1, 2, 3, 255, 256}, edge_c[] = {1, 2, 127, 128}, edge_m[] = {2, 3, 63, 64};
     static const unsigned edge_n[] = {0, 1, 2, 4095, 4096};
     unsigned *number = made->number;
     if (size == EDGE) {
         number[F] = chance_of(edge_f, 5);
         number[C] = chance_of(edge_c, 4);
-        number[M] = chance_of(edge_m, 2);
+        number[M] = chance_of(edge_m, 4);
         *target = chance_of(edge_n, 5);
     } else {
         number[F] = chance_between(chance_one_in(8) ? 1 : 2, most[size][F]);
         number[C] = chance_between(1, most[size][C]);
-        number[M] = 2 * chance_between(1, most[size][M] / 2);
+        number[M] = chance_between(2, most[size][M]);
         *target = chance_one_in(2) ? most[size][N] : chance_below(most[size][N] + 1);
     }
     /* Half of the large boards get few enough wires to be filled up. */
     if (size == LARGE && chance_one_in(2)) {
-        while (number[M] > 2 && number[F] * number[C] * number[M] > 2 * *target) number[M] -= 2;
+        while (number[M] > 3 && number[F] * number[C] * number[M] > 2 * *target) number[M] -= 2;
         while (number[C] > 1 && number[F] * number[C] * number[M] > 2 * *target) number[C]--;
     }
     number[N] = 0;
@@ -157,7 +157,7 @@ void make_board(struct made *made, enum size size)
     memset(made, 0, sizeof *made);
     making.made = made;
     choose_numbers(made, size, &making.target);
-    making.limit = made->number[M] * made->number[C];
+    making.limit = usable_width(made->number[M]) * made->number[C];
     choose_busy(&making);
     add_nets(&making);
     if (chance_one_in(8)) add_too_many(&making);

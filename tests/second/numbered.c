@@ -15,7 +15,7 @@ static uint16_t numbers[MOST_NETS + BEYOND];
 
 static void must(bool holds, const char *what)
 {
-    if (!holds) report_failure("document 01's numbered case: %s", what);
+    if (!holds) report_failure("a numbered case or request: %s", what);
 }
 
 /* The job of a board with nets given as pairs of digits, such as "01 12 20". */
@@ -72,7 +72,7 @@ static void cases_1_to_5(void)
     must_refuse(job_of(3, 2, 0, "01 12 20"), 5, 6);
     must_refuse(job_of(3, 2, 65, "01 12 20"), 5, 6);
     must_refuse(job_of(3, 2, 64, "01 12 20"), 0, 0);
-    must_refuse(job_of(3, 2, 63, "01 12 20"), 6, 6);
+    must_refuse(job_of(3, 2, 63, "01 12 20"), 0, 0); /* by ticket 1 */
 }
 
 static void case_6(void)
@@ -135,6 +135,20 @@ static void cases_9_to_11(void)
     must_refuse(job_of(3, 1, 2, "01 12 20 21"), 12, 1);
 }
 
+/* Three wires of which two are usable. On one crossbar three nets are within the wires and above the limit. */
+static void ticket_1(void)
+{
+    report_part("ticket", 1);
+    must_give_sheet(job_of(2, 2, 3, "01 01 01 01"), "\0\3\0\2\0\2\0\3\0\4\0\0\0\1\0\0\0\1\0\2\0\2\0\2", 24);
+    must_refuse(job_of(2, 2, 3, "01 01 01 01 01"), 12, 0);
+    must_refuse(job_of(2, 1, 3, "01 01"), 0, 0);
+    must_refuse(job_of(2, 1, 3, "01 01 01"), 12, 0);
+    struct file job = job_of(3, 2, 5, "01 01 01 01 01 12 12 12");
+    struct list plan = plan_of(job);
+    memset(numbers, 0, sizeof numbers);
+    must(case_rounds(job, plan, LEAST_SCRATCH) && last_excess() == 5 && last_rounds() == 1, "loads 5, 8 and 3 at width 4");
+}
+
 /* Case 8 twice on one board: two odd groups, and the totals may still differ by one only. */
 static void two_odd_groups(void)
 {
@@ -176,6 +190,7 @@ void run_numbered(void)
     case_7();
     case_8();
     cases_9_to_11();
+    ticket_1();
     two_odd_groups();
     case_2_damaged();
 }

@@ -10,10 +10,10 @@ bool choose(const struct job *job, const struct loads *loads, struct choice *cho
     for (unsigned fpga = 0; fpga < job->f; fpga++) {
         const unsigned *load = loads->load[fpga];
         unsigned a = 0, b = 0;
-        while (a < job->c && load[a] <= job->m) a++;
+        while (a < job->c && load[a] <= job->width) a++;
         if (a == job->c) continue;
-        /* No degree is above m times c, so some load is below m. */
-        while (b < job->c && load[b] >= job->m) b++;
+        /* No degree is above the limit, so some load is below the width. */
+        while (b < job->c && load[b] >= job->width) b++;
         choice->fpga = fpga;
         choice->a = a;
         choice->b = b;
@@ -49,7 +49,7 @@ static const char *fault_in_nets(const struct round *round)
 
 static const char *fault_at_fpga(const struct round *round, unsigned fpga)
 {
-    unsigned a = round->choice.a, b = round->choice.b, m = round->job->m;
+    unsigned a = round->choice.a, b = round->choice.b, m = round->job->width;
     unsigned s = old.load[fpga][a] + old.load[fpga][b];
     unsigned on_a = new.load[fpga][a], on_b = new.load[fpga][b];
     unsigned apart = on_a > on_b ? on_a - on_b : on_b - on_a;
@@ -57,7 +57,7 @@ static const char *fault_at_fpga(const struct round *round, unsigned fpga)
     bool least = s < 2 * m || (on_a >= m && on_b >= m);
     bool even = s % 2 == 1 ? apart == 1 : apart == 0 || apart == 2;
     if (most && least && even) return NULL;
-    return fault("FPGA %u with %u nets on A and B and m %u has now %u on A and %u on B", fpga, s, m, on_a, on_b);
+    return fault("FPGA %u with %u nets on A and B and width %u has now %u on A and %u on B", fpga, s, m, on_a, on_b);
 }
 
 static const char *fault_in_totals(const struct round *round)

@@ -17,7 +17,7 @@ struct verdict check_loads(const struct job *job, const uint16_t *plan)
     count_loads(job, plan, &loads);
     for (unsigned fpga = 0; fpga < job->f; fpga++)
         for (unsigned crossbar = 0; crossbar < job->c; crossbar++)
-            if (loads.load[fpga][crossbar] > job->m) return refuse(24, fpga, crossbar);
+            if (loads.load[fpga][crossbar] > job->width) return refuse(24, fpga, crossbar);
     unsigned greatest = greatest_total(job, &loads);
     for (unsigned crossbar = 0; crossbar < job->c; crossbar++)
         if (loads.total[crossbar] + 2 <= greatest) return refuse(25, crossbar, 0);

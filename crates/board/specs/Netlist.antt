@@ -6,7 +6,7 @@ pub record Netlist : Type 0 where
   pub f : ℕ
   -- crossbars, numbered from 0
   pub c : ℕ
-  -- wires between an FPGA and each crossbar, by the FPGA
+  -- wires in use between an FPGA and each crossbar, by the FPGA: what document 01's rules call m
   pub width : ℕ → ℕ
   -- nets, numbered from 0
   pub n : ℕ

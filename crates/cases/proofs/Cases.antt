@@ -1,28 +1,30 @@
--- Cases 4, 6, 7 and 8 of document 01, of every assignment, round and chain: from the rows of the table.
+-- Cases 4, 6, 7 and 8 of document 01, of every assignment, round and chain, and request 1's odd board: from the rows of the table.
 -- Assumes nothing.
 use mathlib.Core.Path.{_≡_, refl, ap, sym, _∙_}
 use mathlib.Core.List.{List, [], _∷_}
-use mathlib.Core.Logic.{_↔_}
+use mathlib.Core.Logic.{_↔_, inl}
 use Prim.Native.Nat.{ℕ, zero, suc, _<_}
 use native.Mathlib.Omega.{arith}
+use lib.ListN.{replicate, getD-replicate}
 use Rattle.laws.specs.Sum.{sum}
 use Rattle.laws.specs.Row.{at, row}
 use Rattle.words.specs.Number.{word}
-use Rattle.job.specs.Job.{netsAt, jobIn}
+use Rattle.words.specs.Verdict.{numberOf}
+use Rattle.job.specs.Job.{netsAt, jobIn, wiredIn}
 use Rattle.job_writer.specs.Write.{jobOf}
 use Rattle.board.specs.Board.{endsAt, load, total, totalExcess, InRange, Legal}
 use Rattle.round.specs.Round.{RoundStep, Chain, Finished}
 use Rattle.cases.specs.Each.{Among}
-use Rattle.cases.specs.Holds.{After}
-use Rattle.cases.specs.Table.{Stop, board, triangle, six, results₆, dealOf, seven, start₇, stops₇, eight, start₈}
+use Rattle.cases.specs.Holds.{verdictOn, After}
+use Rattle.cases.specs.Table.{Stop, four, six, results₆, dealOf, seven, start₇, stops₇, eight, start₈, three, request}
 use Rattle.cases.proofs.Table.{case-holds}
-use Rattle.cases.proofs.Plans.{legal-says}
+use Rattle.cases.proofs.Plans.{legal-says, listed-legal}
 use Rattle.cases.proofs.Rounds.{results-say, always-says, round-legal, one-finish, one-round}
 use Rattle.cases.proofs.Chains.{rounds-say, rounds-always}
 
--- case 4: no assignment exists
-pub four-none : (a : ℕ → ℕ) → InRange (jobIn (board 3 2 1 triangle)) a → Legal (jobIn (board 3 2 1 triangle)) a → ⊥
-four-none = legal-says (board 3 2 1 triangle) [] (case-holds 4 .1 .1 .0)
+-- case 4: no assignment exists, with the one wire in use
+pub four-none : (a : ℕ → ℕ) → InRange (wiredIn four) a → Legal (wiredIn four) a → ⊥
+four-none = legal-says (wiredIn four) [] (case-holds 4 .1 .1 .0)
 
 -- case 6: a round from the deal ends in one of the four plans, each of them may be the end, and every finish makes one round
 pub six-every-round : (b : ℕ → ℕ) → RoundStep (jobIn six) (at (dealOf six)) b ↔ Among (row b (jobIn six .n)) results₆
@@ -71,3 +73,11 @@ eight-finish = one-finish eight start₈ (case-holds 8 .0)
 
 pub eight-every-finish : {b : ℕ → ℕ} {k s : ℕ} → Finished (jobIn eight) (at start₈) b k s → k ≡ 1
 eight-every-finish r = one-round eight start₈ (case-holds 8 .0) r
+
+-- request 1: refused with 12, and yet all three nets on crossbar 0 are within the three wires
+pub three-refused-within : (numberOf (verdictOn three) ≡ 12) × InRange (wiredIn three) (at (replicate 3 0)) × Legal (wiredIn three) (at (replicate 3 0))
+unfolding word jobOf netsAt
+three-refused-within =
+    let rows = case-holds (request 1) .1 .1 in
+    let zero : (i : ℕ) → i < 3 → at (replicate 3 0) i < 1 = λ i l. omega (arith, getD-replicate {A = ℕ} 3 i 0 0 l) in
+    (rows .0 .0, zero, listed-legal (wiredIn three) (replicate 3 0 ∷ []) (rows .1 .0) (replicate 3 0) (inl refl))

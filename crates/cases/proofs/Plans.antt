@@ -6,7 +6,7 @@ use Prim.Native.Nat.{ℕ, _≤_}
 use native.Mathlib.Omega.{arith}
 use lib.Dec.{eqb}
 use lib.ListN.{length}
-use borrow.Author.Tests.{eq-eqb}
+use borrow.Author.Tests.{eq-eqb, eqb-true}
 use Rattle.laws.specs.Row.{at, row}
 use Rattle.laws.proofs.Row.{row-at}
 use Rattle.words.specs.declared.Verdict.the-variants as verdict
@@ -31,7 +31,7 @@ use Rattle.cases.specs.Each.{Among, ways}
 use Rattle.cases.specs.Table.{dealOf}
 use Rattle.cases.specs.Table.Row.{sheet, legal}
 use Rattle.cases.specs.Holds.{verdictOn, excessOf, Holds}
-use Rattle.cases.proofs.Each.{passes-picked, way-among}
+use Rattle.cases.proofs.Each.{picked-passes, passes-picked, way-among}
 
 -- more room and a longer scratch change no verdict
 pub any-room : (job : List ℕ) (room scratch : ℕ) → nIn job ≤ room → scratchLong ≤ scratch → planVerdict job room scratch ≡ verdictOn job
@@ -70,11 +70,14 @@ module _ (job written : List ℕ) (h : Holds (sheet job written))
       by-deal (p .0) (p .1) (p .2) (done-planned job plan₀ plan s₀ s (p .0) (p .1) (subst (PlanCall job plan₀ plan s₀ s) (p .2) call) .1)
 
 -- every legal assignment is among the listed ones
-pub legal-says : (job : List ℕ) (plans : List (List ℕ)) → Holds (legal job plans)
-    → (a : ℕ → ℕ) → InRange (jobIn job) a → Legal (jobIn job) a → Among (row a (jobIn job .n)) plans
-legal-says job plans h a l z =
-    let J = jobIn job in
+pub legal-says : (J : Netlist) (plans : List (List ℕ)) → Holds (legal J plans)
+    → (a : ℕ → ℕ) → InRange J a → Legal J a → Among (row a (J .n)) plans
+legal-says J plans h a l z =
     let same : Alike J (at (row a (J .n))) a = λ i k. row-at a (J .n) i k in
     let e : excessOf J (row a (J .n)) ≡ 0 = excess-alike J (at (row a (J .n))) a same ∙ z in
     subst (Among (row a (J .n))) h
     (passes-picked (λ b. eqb (excessOf J b) 0) (row a (J .n)) (ways (J .c) (J .n)) (way-among (J .c) a (J .n) l) (eq-eqb (excessOf J (row a (J .n))) 0 e))
+
+-- and each of these is legal
+pub listed-legal : (J : Netlist) (plans : List (List ℕ)) → Holds (legal J plans) → (b : List ℕ) → Among b plans → Legal J (at b)
+listed-legal J plans h b m = eqb-true (excessOf J b) 0 (picked-passes (λ d. eqb (excessOf J d) 0) b (ways (J .c) (J .n)) (subst (Among b) (sym h) m))

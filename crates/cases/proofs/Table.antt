@@ -58,7 +58,7 @@ table-holds =
     and (refl, refl, refl)
     and (refl, refl, refl)
     and refl
-    and (refl, refl, refl)
+    and refl
     and refl
     and refl
     and (refl, tt, refl and refl and refl and refl and tt)
@@ -68,6 +68,10 @@ table-holds =
     and (refl, (refl, refl) and (refl, refl) and (refl, refl) and (refl, refl) and (refl, refl) and (refl, refl) and tt)
     and (refl, refl, refl)
     and (refl, refl, refl)
+    and (refl, refl, refl, refl, refl)
+    and (refl, refl, refl)
+    and (refl, refl, refl)
+    and refl
     and tt
 
 -- so the rows of each case do

@@ -63,8 +63,8 @@ Holds (sheet job written) =
     × (writeSheetVerdict job (dealOf job) (length written) ≡ Done)
     × (sheetOf job (at (dealOf job)) ≡ written)
     × (auditVerdict job written ≡ Done)
-Holds (full job d) = let J = jobIn job in (row (degree J) (J .f) ≡ replicate (J .f) d) × (row (limit J) (J .f) ≡ replicate (J .f) d)
-Holds (legal job plans) = let J = jobIn job in picked (λ b. eqb (excessOf J b) 0) (ways (J .c) (J .n)) ≡ plans
+Holds (full J d) = (row (degree J) (J .f) ≡ replicate (J .f) d) × (row (limit J) (J .f) ≡ replicate (J .f) d)
+Holds (legal J plans) = picked (λ b. eqb (excessOf J b) 0) (ways (J .c) (J .n)) ≡ plans
 Holds (excess job plan e) = excessOf (jobIn job) plan ≡ e
 Holds (loadAt job plan v x l) = load (jobIn job) (at plan) v x ≡ l
 Holds (oneRound job start) =

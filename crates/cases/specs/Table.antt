@@ -1,15 +1,17 @@
--- Document 01's cases 1 to 9 as one table: what that page says of each, in its order. Holds.antt says what a row means.
+-- Document 01's cases 1 to 9 as one table: what that page says of each, in its order, and what document 02 says since. Holds.antt says what a
+-- row means.
 use mathlib.Core.List.{List, [], _∷_}
-use Prim.Native.Nat.{ℕ}
+use Prim.Native.Nat.{ℕ, _+_}
 use lib.Dec.{eqb}
 use lib.ListN.{length, replicate}
 use Rattle.words.specs.Number.{bytes}
 use Rattle.job_writer.specs.Write.{jobOf}
-use Rattle.job.specs.Job.{jobIn}
+use Rattle.job.specs.Job.{jobIn, wiredIn}
+use Rattle.board.specs.Netlist.{Netlist}
 use Rattle.finish.specs.Plan.{dealt}
 use Rattle.cases.specs.Each.{picked}
 
--- ---- what a row may say. A job and a sheet are bytes; a plan and a start are lists of crossbar numbers, by net
+-- ---- what a row may say. A job and a sheet are bytes; a plan and a start are lists of crossbar numbers, by net; J is a netlist, of no file
 
 -- an assignment before or after a round, with its excess and the totals of all crossbars
 pub record Stop : Type 0 where
@@ -24,10 +26,10 @@ pub data Row : Type 0 where
   refused : (job : List ℕ) (number p q : ℕ) → Row
   -- the deal is legal, so plan makes no round; and these are the bytes of its sheet
   sheet : (job written : List ℕ) → Row
-  -- every FPGA has this degree, which is m times c
-  full : (job : List ℕ) (d : ℕ) → Row
+  -- every FPGA has this degree, which is its limit
+  full : (J : Netlist) (d : ℕ) → Row
   -- of all ways to put the nets on the crossbars these are legal
-  legal : (job : List ℕ) (plans : List (List ℕ)) → Row
+  legal : (J : Netlist) (plans : List (List ℕ)) → Row
   -- an assignment's excess
   excess : (job plan : List ℕ) (e : ℕ) → Row
   -- its load of FPGA v on crossbar x
@@ -56,9 +58,9 @@ board f c m nets = jobOf f c m (length nets) (ends nets)
 abbrev pub dealOf : List ℕ → List ℕ
 dealOf job = dealt (jobIn job) []
 
--- the nets of case 4
-abbrev pub triangle : List (ℕ × ℕ)
-triangle = (0, 1) ∷ (1, 2) ∷ (2, 0) ∷ []
+-- the job of case 4: a triangle
+abbrev pub four : List ℕ
+four = board 3 2 1 ((0, 1) ∷ (1, 2) ∷ (2, 0) ∷ [])
 
 -- the job of case 6, and its four results
 abbrev pub six : List ℕ
@@ -90,7 +92,14 @@ eight = board 4 2 2 ((0, 1) ∷ (1, 2) ∷ (2, 0) ∷ (0, 3) ∷ (0, 3) ∷ [])
 abbrev pub start₈ : List ℕ
 start₈ = replicate 5 0
 
--- ---- the table: each row with the number of its case
+-- three nets between two FPGAs that have three wires to the only crossbar
+abbrev pub three : List ℕ
+three = board 2 1 3 (replicate 3 (0, 1))
+
+-- ---- the table: each row with the number of its case; what a request of document 02 says is numbered behind the cases
+
+abbrev pub request : ℕ → ℕ
+request k = 100 + k
 
 abbrev pub table : List (ℕ × Row)
 table =
@@ -102,13 +111,13 @@ table =
     )
     ∷ (3, accepted (board 2 1 2 (replicate 2 (0, 1))))
     ∷ (3, refused (board 2 1 2 (replicate 3 (0, 1))) 12 0 0)
-    ∷ (4, refused (board 3 2 1 triangle) 6 6 0)
-    ∷ (4, full (board 3 2 1 triangle) 2)
-    ∷ (4, legal (board 3 2 1 triangle) [])
+    ∷ (4, refused four 6 6 0)
+    ∷ (4, full (wiredIn four) 2)
+    ∷ (4, legal (wiredIn four) [])
     ∷ (5, refused (board 1 1 0 []) 5 6 0)
     ∷ (5, refused (board 1 1 65 []) 5 6 0)
     ∷ (5, accepted (board 1 1 64 []))
-    ∷ (5, refused (board 1 1 63 []) 6 6 0)
+    ∷ (5, accepted (board 1 1 63 []))
     ∷ (6, excess six (dealOf six) 1)
     ∷ (6, loadAt six (dealOf six) 0 0 3)
     ∷ (6, oneRound six (dealOf six))
@@ -118,6 +127,14 @@ table =
     ∷ (8, always eight start₈ 0 (2 ∷ 2 ∷ []) (3 ∷ 2 ∷ []))
     ∷ (9, refused (board 5 1 2 ((5, 5) ∷ [])) 9 0 0)
     ∷ (9, refused (board 6 1 2 ((5, 5) ∷ [])) 10 0 0)
+    ∷ (
+      request 1,
+      sheet (board 2 2 3 (replicate 4 (0, 1)))
+          (bytes (0x0003 ∷ 0x0002 ∷ 0x0002 ∷ 0x0003 ∷ 0x0004 ∷ 0x0000 ∷ 0x0001 ∷ 0x0000 ∷ 0x0001 ∷ 0x0002 ∷ 0x0002 ∷ 0x0002 ∷ [])),
+    )
+    ∷ (request 1, refused (board 2 2 3 (replicate 5 (0, 1))) 12 0 0)
+    ∷ (request 1, refused three 12 0 0)
+    ∷ (request 1, legal (wiredIn three) (replicate 3 0 ∷ []))
     ∷ []
 
 -- the rows of one case

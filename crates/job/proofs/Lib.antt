@@ -2,5 +2,6 @@
 pub mod Nets
 pub mod Stages
 pub mod Passing
+pub mod Width
 pub mod Sound
 pub mod Reading

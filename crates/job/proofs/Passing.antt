@@ -21,6 +21,7 @@ passes job done =
       f = refl;
       c = refl;
       m = refl;
+      width = refl;
       n = refl;
       start = refl;
       ranged = ranged _ _ _ _ (its-ranges job (its-head job done));

@@ -3,7 +3,7 @@
 use mathlib.Core.Path.{_≡_, refl, _∙_}
 use mathlib.Core.Bool.{Bool, true, false, _||_, true≢false}
 use mathlib.Core.List.{List}
-use Prim.Native.Nat.{ℕ, _%_, _≤_, _<_}
+use Prim.Native.Nat.{ℕ, _≤_, _<_}
 use native.Mathlib.Omega.{arith}
 use lib.Dec.{ltb}
 use lib.ListN.{length}
@@ -35,15 +35,14 @@ ranged f c m n h =
     let rf = inside 1 256 f (passed _ 3 _ (then-first _ _ h)) in
     let rc = inside 1 128 c (passed _ 4 _ (then-first _ _ h2)) in
     let rm = inside 1 64 m (passed _ 5 _ (then-first _ _ h3)) in
-    let odd : m % 2 ≡ 1 → ⊥ = eqb-false _ _ (passed _ 6 _ (then-first _ _ h4)) in
+    let not-one : m ≡ 1 → ⊥ = eqb-false _ _ (passed _ 6 _ (then-first _ _ h4)) in
     record {
       f-low = rf .0;
       f-high = rf .1;
       c-low = rc .0;
       c-high = rc .1;
-      m-low = rm .0;
+      m-low = omega (arith, rm .0, not-one);
       m-high = rm .1;
-      even = omega (arith, odd);
       n-high = ltb-false _ _ (passed _ 7 _ (then-second _ _ h4));
     }
 

@@ -2,7 +2,7 @@
 use mathlib.Core.Bool.{Bool, not, _||_}
 use mathlib.Core.List.{List}
 use mathlib.Core.Path.{_≡_}
-use Prim.Native.Nat.{ℕ, _+_, _*_, _%_, _≤_, _<_}
+use Prim.Native.Nat.{ℕ, _+_, _*_, _≤_, _<_}
 use lib.Dec.{ltb, leb, eqb}
 use lib.ListN.{length}
 use Rattle.words.specs.declared.Verdict.{Verdict}
@@ -12,7 +12,7 @@ use Rattle.words.specs.Number.{word}
 use Rattle.job.specs.declared.Head.{Head}
 use Rattle.job.specs.declared.Checked.{Checked}
 use Rattle.job.specs.declared.Checked.the-variants.{Passed, Refused}
-use Rattle.job.specs.Job.{fAt, cAt, mAt, nAt, headLong, netsAt, jobLength, fIn, cIn, mIn, nIn, headIn, firstIn, secondIn}
+use Rattle.job.specs.Job.{fAt, cAt, mAt, nAt, headLong, netsAt, jobLength, fIn, cIn, mIn, nIn, usableWidth, headIn, firstIn, secondIn}
 
 -- ---- the stages
 
@@ -34,7 +34,7 @@ rangesVerdict f c m n =
     refuseIf (outside 1 256 f) 3 (atByte fAt) then
     refuseIf (outside 1 128 c) 4 (atByte cAt) then
     refuseIf (outside 1 64 m) 5 (atByte mAt) then
-    refuseIf (eqb (m % 2) 1) 6 (atByte mAt) then
+    refuseIf (eqb m 1) 6 (atByte mAt) then
     refuseIf (ltb 4096 n) 7 (atByte nAt)
 
 -- the head: 1 to 7
@@ -78,9 +78,8 @@ pub record Ranged (f c m n : ℕ) : Type 0 where
   pub f-high : f ≤ 256
   pub c-low : 1 ≤ c
   pub c-high : c ≤ 128
-  pub m-low : 1 ≤ m
+  pub m-low : 2 ≤ m
   pub m-high : m ≤ 64
-  pub even : m % 2 ≡ 0
   pub n-high : n ≤ 4096
 
 -- a net between FPGAs v and w
@@ -94,6 +93,7 @@ pub record WellFormed (job : List ℕ) (h : Head) : Type 0 where
   pub f : h .f ≡ fIn job
   pub c : h .c ≡ cIn job
   pub m : h .m ≡ mIn job
+  pub width : h .width ≡ usableWidth (mIn job)
   pub n : h .n ≡ nIn job
   pub start : h .start ≡ netsAt job
   pub ranged : Ranged (h .f) (h .c) (h .m) (h .n)

@@ -1,7 +1,7 @@
 -- The job file: count 3, then f, c, m; count n, then n pairs of FPGA numbers. All numbers are two bytes.
 -- What stands before the nets is the job's head.
 use mathlib.Core.List.{List}
-use Prim.Native.Nat.{ℕ, _+_, _*_}
+use Prim.Native.Nat.{ℕ, _+_, _-_, _*_, _%_}
 use lib.ListN.{drop}
 use Rattle.words.specs.Number.{word, numbers}
 use Rattle.board.specs.Netlist.{Netlist}
@@ -40,9 +40,17 @@ mIn job = word job mAt
 abbrev pub nIn : List ℕ → ℕ
 nIn job = word job nAt
 
+-- the usable width of m wires: m if even, m - 1 if odd
+abbrev pub usableWidth : ℕ → ℕ
+usableWidth m = m - m % 2
+
+-- the usable width at FPGA v
+abbrev pub widthIn : List ℕ → ℕ → ℕ
+widthIn job v = usableWidth (mIn job)
+
 -- its head
 abbrev pub headIn : List ℕ → Head
-headIn job = record { f = fIn job; c = cIn job; m = mIn job; n = nIn job; start = netsAt job }
+headIn job = record { f = fIn job; c = cIn job; m = mIn job; width = usableWidth (mIn job); n = nIn job; start = netsAt job }
 
 -- the length of a job
 abbrev pub jobLength : List ℕ → ℕ
@@ -59,6 +67,14 @@ secondIn job i = word job (netsAt job + 2 + 4 * i)
 abbrev pub netsIn : List ℕ → List ℕ
 netsIn job = numbers (drop (netsAt job) job)
 
--- the netlist that these bytes are
+-- the netlist that these bytes are, by how many wires of each FPGA to a crossbar are used
+abbrev pub netlistIn : List ℕ → (ℕ → ℕ) → Netlist
+netlistIn job width = record { f = fIn job; c = cIn job; width = width; n = nIn job; first = firstIn job; second = secondIn job }
+
+-- the usable ones: this netlist is what all rules read
 abbrev pub jobIn : List ℕ → Netlist
-jobIn job = record { f = fIn job; c = cIn job; width = λ _. mIn job; n = nIn job; first = firstIn job; second = secondIn job }
+jobIn job = netlistIn job (widthIn job)
+
+-- all m of them, an odd one too: legal here is within m as written
+abbrev pub wiredIn : List ℕ → Netlist
+wiredIn job = netlistIn job (λ _. mIn job)

@@ -14,11 +14,12 @@ pub(crate) const N_AT: usize = 8;
 
 pub(crate) const HEAD_LONG: usize = 10;
 
-// The numbers of a job's head, and the byte where its nets start.
+// The numbers of a job's head, m as written and the usable width; and the byte where its nets start.
 pub struct Head {
     pub f: usize,
     pub c: usize,
     pub m: usize,
+    pub width: usize,
     pub n: usize,
     pub start: usize,
 }

@@ -16,6 +16,7 @@ use crate::M_AT;
 use crate::N_AT;
 use crate::NetEnds;
 use crate::well_formed::check_job;
+use crate::wires::usable_width;
 use words::Fpga;
 use words::Net;
 use words::number::read;
@@ -33,10 +34,12 @@ pub(crate) fn head_in(job: &[u8]) -> Head
     requires { ⌜ headLong ≤ length (now job) ⌝ }
     ensures { λ r. ⌜ r ≡ headIn (now (job .entry)) ⌝ }
 {
+    let m = wide(read(job, M_AT));
     Head {
         f: wide(read(job, F_AT)),
         c: wide(read(job, C_AT)),
-        m: wide(read(job, M_AT)),
+        m,
+        width: usable_width(m),
         n: wide(read(job, N_AT)),
         start: nets_at(job),
     }

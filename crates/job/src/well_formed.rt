@@ -40,7 +40,7 @@ pub fn check_ranges(f: usize, c: usize, m: usize, n: usize) -> Verdict
     if outside(1, 64, m) {
         return refuse(5, Place::Byte(M_AT));
     }
-    if m % 2 == 1 {
+    if m == 1 {
         return refuse(6, Place::Byte(M_AT));
     }
     if 4096 < n {

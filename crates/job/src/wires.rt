@@ -2,16 +2,23 @@
 ghost use mathlib.Core.Path.{_≡_};
 ghost use Prim.Native.Nat.{_≤_};
 ghost use Rattle.board.specs.Board.{limit, usable, deal};
-ghost use Rattle.job.specs.Job.{jobIn};
+ghost use Rattle.job.specs.Job.{usableWidth, jobIn};
 ghost use Rattle.job.specs.Check.{WellFormed};
 use crate::Head;
 
-// The wires between FPGA v and each crossbar that may be used.
+// The usable width of m wires.
+pub(crate) fn usable_width(m: usize) -> usize
+    ensures { λ r. ⌜ r ≡ usableWidth m ⌝ }
+{
+    m - m % 2
+}
+
+// The usable width at FPGA v. Whoever needs a width asks here.
 pub fn width_of(job: &[u8], head: Head, v: usize) -> usize
     requires { ⌜ WellFormed (now job) head ⌝ }
     ensures { λ r. ⌜ (r ≡ jobIn (now (job .entry)) .width v) × (r ≤ 64) ⌝ }
 {
-    head.m
+    head.width
 }
 
 // How many nets may end at FPGA v.

@@ -1,9 +1,9 @@
--- Condition 2: a job is refused on a degree above the limit and on nothing else, and then no assignment is legal.
+-- Condition 2: a job is refused on a degree above the limit and on nothing else, and then no assignment is legal; for even m none is within m.
 -- Assumes nothing.
-use mathlib.Core.Path.{_≡_, ap, sym, _∙_}
+use mathlib.Core.Path.{_≡_, ap, sym, subst, _∙_}
 use mathlib.Core.List.{List}
 use mathlib.Core.Logic.{_↔_}
-use Prim.Native.Nat.{ℕ, _≤_, _<_}
+use Prim.Native.Nat.{ℕ, _%_, _≤_, _<_}
 use native.Mathlib.Omega.{arith}
 use lib.ListN.{length}
 use Rattle.laws.specs.Lowest.{Lowest, somewhere}
@@ -16,8 +16,9 @@ use Rattle.words.specs.declared.Refusal.{Refusal}
 use Rattle.words.specs.declared.Verdict.the-variants.{Done, Refused}
 use Rattle.words.specs.Verdict.{refuse, atFpga}
 use Rattle.words.proofs.Order.{then-done, refuses, passes}
-use Rattle.job.specs.Job.{nIn, jobIn}
+use Rattle.job.specs.Job.{mIn, nIn, jobIn, wiredIn}
 use Rattle.job.specs.Check.{jobVerdict}
+use Rattle.job.proofs.Width.{even-wired}
 use Rattle.board.specs.Netlist.{Netlist}
 use Rattle.board.specs.Board.{degree, limit, InRange, Legal, WithinLimits}
 use Rattle.board.proofs.Limit.{over-limit, legal-limit}
@@ -75,8 +76,14 @@ module _ (job : List ℕ) (planLength scratchLength : ℕ) (sound : jobVerdict j
       → (w : Lowest (λ v. limit (jobIn job) v < degree (jobIn job) v) (jobIn job .f)) × (Refused r ≡ refuse 12 (atFpga (w .at)))
   plan-refused-only r e = degree-refused (jobIn job) r (sym plan-by-degree ∙ e)
 
+  -- whatever m is, none within the usable width
   pub plan-refused-not-legal : (r : Refusal) → planVerdict job planLength scratchLength ≡ Refused r → (a : ℕ → ℕ) → InRange (jobIn job) a → Legal (jobIn job) a → ⊥
   plan-refused-not-legal r e = refused-not-legal (jobIn job) r (sym plan-by-degree ∙ e)
+
+  -- for even m, none within m; for odd m there may be one (`three-refused-within`, crates/cases)
+  pub plan-refused-not-within : mIn job % 2 ≡ 0 → (r : Refusal) → planVerdict job planLength scratchLength ≡ Refused r
+      → (a : ℕ → ℕ) → InRange (wiredIn job) a → Legal (wiredIn job) a → ⊥
+  plan-refused-not-within even r e a h z = plan-refused-not-legal r e a h (subst (λ (J : Netlist). Legal J a) (sym (even-wired job even)) z)
 
 -- ---- one round and finish: with a start in range nothing is refused
 

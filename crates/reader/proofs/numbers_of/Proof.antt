@@ -23,7 +23,7 @@ cast-t10 : tie.Need-cast-t10
 cast-t10 c = omega (arith, check-passed _ _ (c .before .before .before .before .before .check-job .ensures) _ (c .before .before .before .checked .given .1) .ranged)
 
 cast-t12 : tie.Need-cast-t12
-cast-t12 c = omega (arith, check-passed _ _ (c .before .before .before .before .before .before .check-job .ensures) _ (c .before .before .before .before .checked .given .1) .ranged)
+cast-t12 c = omega (arith, check-passed _ _ (c .before .before .before .before .before .before .check-job .ensures) _ (c .before .before .before .before .checked .given .1))
 
 cast-t13 : tie.Need-cast-t13
 cast-t13 c = omega (arith, check-passed _ _ (c .before .before .before .before .before .before .before .check-job .ensures) _ (c .before .before .before .before .before .checked .given .1) .ranged)

@@ -22,6 +22,9 @@ read-requires-3 c κs = search needs
 wide-requires-3 : tie.Need-wide-requires-3
 wide-requires-3 c κs = search needs
 
+usable-width-requires : tie.Need-usable-width-requires
+usable-width-requires c κs = search needs
+
 read-requires-4 : tie.Need-read-requires-4
 read-requires-4 c κs = search needs
 
@@ -32,7 +35,7 @@ nets-at-requires : tie.Need-nets-at-requires
 nets-at-requires c κs = search needs
 
 returns : tie.Need-returns
-returns c = rw (c .before .before .before .before .before .before .before .wide .ensures .0 ∙ c .before .before .before .before .before .before .before .before .read .ensures, c .before .before .before .before .before .wide2 .ensures .0 ∙ c .before .before .before .before .before .before .read2 .ensures, c .before .before .before .wide3 .ensures .0 ∙ c .before .before .before .before .read3 .ensures, c .before .wide4 .ensures .0 ∙ c .before .before .read4 .ensures, c .nets-at .ensures .0)
+returns c = rw (c .before .before .before .before .before .before .wide2 .ensures .0 ∙ c .before .before .before .before .before .before .before .read2 .ensures, c .before .before .before .before .wide3 .ensures .0 ∙ c .before .before .before .before .before .read3 .ensures, c .before .before .before .usable-width .ensures, c .before .before .before .before .before .before .before .before .wide .ensures .0 ∙ c .before .before .before .before .before .before .before .before .before .read .ensures, c .before .wide4 .ensures .0 ∙ c .before .before .read4 .ensures, c .nets-at .ensures .0)
 
 pub head-in-spec : {M : Type 1} → statement M
 head-in-spec =
@@ -44,6 +47,7 @@ head-in-spec =
     wide-requires-2
     read-requires-3
     wide-requires-3
+    usable-width-requires
     read-requires-4
     wide-requires-4
     nets-at-requires
