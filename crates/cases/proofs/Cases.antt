@@ -79,5 +79,5 @@ pub three-refused-within : (numberOf (verdictOn three) ≡ 12) × InRange (wired
 unfolding word jobOf netsAt
 three-refused-within =
     let rows = case-holds (request 1) .1 .1 in
-    let zero : (i : ℕ) → i < 3 → at (replicate 3 0) i < 1 = λ i l. omega (arith, getD-replicate {A = ℕ} 3 i 0 0 l) in
-    (rows .0 .0, zero, listed-legal (wiredIn three) (replicate 3 0 ∷ []) (rows .1 .0) (replicate 3 0) (inl refl))
+    let in-range : (i : ℕ) → i < 3 → at (replicate 3 0) i < 1 = λ i l. omega (arith, getD-replicate {A = ℕ} 3 i 0 0 l) in
+    (rows .0 .0, in-range, listed-legal (wiredIn three) (replicate 3 0 ∷ []) (rows .1 .0) (replicate 3 0) (inl refl))

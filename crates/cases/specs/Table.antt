@@ -11,7 +11,7 @@ use Rattle.board.specs.Netlist.{Netlist}
 use Rattle.finish.specs.Plan.{dealt}
 use Rattle.cases.specs.Each.{picked}
 
--- ---- what a row may say. A job and a sheet are bytes; a plan and a start are lists of crossbar numbers, by net; J is a netlist, of no file
+-- ---- what a row may say. A job and a sheet are bytes; a plan and a start are lists of crossbar numbers, by net; J is a netlist
 
 -- an assignment before or after a round, with its excess and the totals of all crossbars
 pub record Stop : Type 0 where
