@@ -1,5 +1,5 @@
 /*
- * The second program: holds every public call of the library against document 01 on many random boards.
+ * The second program: holds every public call of the library against documents 01 and 02 on many random boards.
  *
  *     second [--seed S] [--boards N] [--board K] [--listings N] [--listing COMMAND..] -- DRIVER-COMMAND..
  *
