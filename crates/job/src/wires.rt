@@ -1,6 +1,6 @@
 // What the board of a job gives: the width and the limit of an FPGA, the crossbars that can be used, and the deal.
 ghost use mathlib.Core.Path.{_≡_};
-ghost use Prim.Native.Nat.{_≤_};
+ghost use Prim.Native.Nat.{_≤_, _<_};
 ghost use Rattle.board.specs.Board.{limit, usable, deal};
 ghost use Rattle.job.specs.Job.{usableWidth, jobIn};
 ghost use Rattle.job.specs.Check.{WellFormed};
@@ -8,6 +8,7 @@ use crate::Head;
 
 // The usable width of m wires.
 pub(crate) fn usable_width(m: usize) -> usize
+    requires { ⌜ m < 65536 ⌝ }
     ensures { λ r. ⌜ r ≡ usableWidth m ⌝ }
 {
     m - m % 2
