@@ -6,7 +6,7 @@ ghost use Rattle.job.specs.Job.{jobIn};
 ghost use Rattle.job.specs.Check.{WellFormed};
 ghost use Rattle.finish.specs.Plan.{dealt};
 use job::Head;
-use job::wires::dealt_to;
+use wires::dealt_to;
 
 // Each net to the crossbar that it is dealt.
 pub(crate) fn deal(job: &[u8], head: Head, plan: &mut [u16])

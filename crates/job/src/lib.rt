@@ -1,7 +1,6 @@
 // The job file: what stands where, its check, and what it says. No other crate knows a byte of it.
 pub mod read;
 pub mod well_formed;
-pub mod wires;
 
 // The bytes of the numbers in the head, and the head's length.
 pub(crate) const F_AT: usize = 2;

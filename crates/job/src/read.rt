@@ -3,7 +3,7 @@ ghost use mathlib.Core.Path.{_≡_};
 ghost use Prim.Native.Nat.{_+_, _*_, _≤_, _<_};
 ghost use lib.ListN.{length};
 ghost use Rattle.words.specs.Lent.{Stretch};
-ghost use Rattle.job.specs.Job.{headLong, netsAt, headIn, firstIn, secondIn};
+ghost use Rattle.job.specs.Job.{headLong, netsAt, usableWidth, headIn, firstIn, secondIn};
 ghost use Rattle.words.specs.declared.Verdict.the-variants.{Done};
 ghost use Rattle.job.specs.Check.{jobVerdict, checkedOf};
 ghost use Rattle.job.specs.Read.{netAt, sectionFrom, sectionLong};
@@ -16,7 +16,6 @@ use crate::M_AT;
 use crate::N_AT;
 use crate::NetEnds;
 use crate::well_formed::check_job;
-use crate::wires::usable_width;
 use words::Fpga;
 use words::Net;
 use words::number::read;
@@ -27,6 +26,14 @@ pub fn nets_at(job: &[u8]) -> usize
     ensures { λ r. ⌜ (r ≡ netsAt (now (job .entry))) × (r < 65536) ⌝ }
 {
     HEAD_LONG
+}
+
+// The usable width of m wires.
+fn usable_width(m: usize) -> usize
+    requires { ⌜ m < 65536 ⌝ }
+    ensures { λ r. ⌜ r ≡ usableWidth m ⌝ }
+{
+    m - m % 2
 }
 
 // The numbers as they stand in the job.

@@ -7,7 +7,7 @@ ghost use Rattle.job.specs.Job.{jobIn};
 ghost use Rattle.job.specs.Check.{WellFormed};
 ghost use Rattle.refusals.specs.Refusals.{rangeVerdict};
 use job::Head;
-use job::wires::can_use;
+use wires::can_use;
 use words::Net;
 use words::Place;
 use words::Verdict;

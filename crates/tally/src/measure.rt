@@ -9,7 +9,7 @@ ghost use Rattle.job.specs.Job.{jobIn};
 ghost use Rattle.board.specs.Board.{totalExcess};
 use crate::count::loads_on;
 use job::Head;
-use job::wires::width_of;
+use wires::width_of;
 use words::number::wide;
 
 // What the loads of all FPGAs at one crossbar are above their widths, together.

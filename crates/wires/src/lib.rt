@@ -1,18 +1,10 @@
 // What the board of a job gives: the width and the limit of an FPGA, the crossbars that can be used, and the deal.
 ghost use mathlib.Core.Path.{_≡_};
-ghost use Prim.Native.Nat.{_≤_, _<_};
+ghost use Prim.Native.Nat.{_≤_};
 ghost use Rattle.board.specs.Board.{limit, usable, deal};
-ghost use Rattle.job.specs.Job.{usableWidth, jobIn};
+ghost use Rattle.job.specs.Job.{jobIn};
 ghost use Rattle.job.specs.Check.{WellFormed};
-use crate::Head;
-
-// The usable width of m wires.
-pub(crate) fn usable_width(m: usize) -> usize
-    requires { ⌜ m < 65536 ⌝ }
-    ensures { λ r. ⌜ r ≡ usableWidth m ⌝ }
-{
-    m - m % 2
-}
+use job::Head;
 
 // The usable width at FPGA v. Whoever needs a width asks here.
 pub fn width_of(job: &[u8], head: Head, v: usize) -> usize

@@ -1,7 +1,7 @@
--- `job::wires::can_use` meets its contract.
+-- `wires::can_use` meets its contract.
 use Rattle.board.specs.Board.{usable}
-use Rattle.job.proofs.wires.can_use.Statement.{statement}
-use Rattle.job.proofs.wires.can_use.Tie as tie
+use Rattle.wires.proofs.can_use.Statement.{statement}
+use Rattle.wires.proofs.can_use.Tie as tie
 
 returns : tie.Need-returns
 unfolding usable

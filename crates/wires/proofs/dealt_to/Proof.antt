@@ -1,10 +1,10 @@
--- `job::wires::dealt_to` meets its contract.
+-- `wires::dealt_to` meets its contract.
 use borrow.Author.Needs.{needs}
 use Rattle.board.specs.Board.{deal}
 use native.Mathlib.Omega.{arith}
 use native.Mathlib.Nat.{mod-lt}
-use Rattle.job.proofs.wires.dealt_to.Statement.{statement}
-use Rattle.job.proofs.wires.dealt_to.Tie as tie
+use Rattle.wires.proofs.dealt_to.Statement.{statement}
+use Rattle.wires.proofs.dealt_to.Tie as tie
 
 rem-result : tie.Need-rem-result
 rem-result c = search needs

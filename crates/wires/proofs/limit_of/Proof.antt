@@ -1,10 +1,10 @@
--- `job::wires::limit_of` meets its contract.
+-- `wires::limit_of` meets its contract.
 use borrow.Author.Needs.{needs}
 use Rattle.board.specs.Board.{limit}
 use native.Mathlib.Omega.{arith}
 use native.Mathlib.Nat.{mul-le-mul}
-use Rattle.job.proofs.wires.limit_of.Statement.{statement}
-use Rattle.job.proofs.wires.limit_of.Tie as tie
+use Rattle.wires.proofs.limit_of.Statement.{statement}
+use Rattle.wires.proofs.limit_of.Tie as tie
 
 width-of-requires : tie.Need-width-of-requires
 width-of-requires c κs = search needs
