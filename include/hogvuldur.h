@@ -28,8 +28,8 @@
  * writes all four numbers of `answer`: after a refusal p, q, 0, 0; otherwise what the call says,
  * filled up with zeros. What stands where in `answer` has a name below.
  *
- * REFUSALS, in the order in which they are checked unless a call says otherwise, with p (q is 0 but
- * for 24):
+ * REFUSALS, in the order in which they are checked unless a call says otherwise, with p (q is 0
+ * where none is named). Those up to 10, with 27, are the job's refusals:
  *    1  job shorter than 10 bytes: its length
  *    2  board count is not 3: byte 0
  *    3  f outside 1 to 256: byte 2
@@ -39,8 +39,10 @@
  *    7  n above 4,096: byte 8
  *    1  job shorter than 10 + 4n: its length
  *    8  job longer than 10 + 4n: byte 10 + 4n
- *    9  a net names an FPGA at or above f: the net
- *   10  a net has the same FPGA twice: the net (nets in order, each for 9 and then 10)
+ *    9  a net's first FPGA is at or above f: p the net, q the byte of that number in the job
+ *   27  a net's second FPGA is at or above f: p the net, q the byte of that number in the job
+ *   10  a net has the same FPGA twice: p the net, q the byte of its second number
+ *       (nets in order, each for 9, then 27, then 10)
  *   11  a lent buffer is too short: 0
  *   12  some FPGA has more than w times c nets: lowest such FPGA. No assignment keeps all loads
  *       within w then; for odd m there may be one within m
@@ -90,7 +92,7 @@ enum {
     HOGVULDUR_M_ONE = 6,
     HOGVULDUR_TOO_MANY_NETS = 7,
     HOGVULDUR_JOB_TOO_LONG = 8,
-    HOGVULDUR_NO_SUCH_FPGA = 9,
+    HOGVULDUR_NO_SUCH_FIRST_FPGA = 9,
     HOGVULDUR_FPGA_TWICE = 10,
     HOGVULDUR_BUFFER_TOO_SHORT = 11,
     HOGVULDUR_DEGREE_ABOVE_LIMIT = 12,
@@ -100,7 +102,8 @@ enum {
     HOGVULDUR_SHEET_CROSSBAR_WRONG = 23,
     HOGVULDUR_LOAD_ABOVE_WIDTH = 24,
     HOGVULDUR_NOT_BALANCED = 25,
-    HOGVULDUR_SHEET_TOTAL_WRONG = 26
+    HOGVULDUR_SHEET_TOTAL_WRONG = 26,
+    HOGVULDUR_NO_SUCH_SECOND_FPGA = 27
 };
 
 /* What stands where in `answer`: answer[HOGVULDUR_P] and so on. */
@@ -114,7 +117,7 @@ enum { HOGVULDUR_ROUNDS, HOGVULDUR_EXCESS };                           /* finish
 enum { HOGVULDUR_IN_SHEET, HOGVULDUR_FAULT_START, HOGVULDUR_FAULT_BYTES }; /* evidence */
 enum { HOGVULDUR_NETS_LEFT };                                          /* spare, headroom */
 
-/* Checks a job. Refusals 1 to 10. */
+/* Checks a job: the job's refusals. */
 uint16_t hogvuldur_check(const uint8_t *job, size_t job_length, uint64_t answer[4]);
 
 /* f, c, m and n of a job; of a refused job four zeros. */
@@ -136,14 +139,15 @@ void hogvuldur_net_section(const uint8_t *job, size_t job_length, uint64_t answe
 /*
  * Writes the job of a board f, c, m with n nets to the first 10 + 4n bytes of `room`. Net i is
  * between FPGAs ends[2i] and ends[2i + 1]. Refusals 3 to 7; 11 for fewer than 2n ends or too
- * little room; then 9 and 10. Places are those in the job it would write. Answer: the bytes written.
+ * little room; then 9, 27 and 10. Places are those in the job it would write. Answer: the bytes
+ * written.
  */
 uint16_t hogvuldur_write_job(uint16_t f, uint16_t c, uint16_t m, uint16_t n,
                              const uint16_t *ends, size_t ends_length,
                              uint8_t *room, size_t room_length, uint64_t answer[4]);
 
 /*
- * One round on the assignment in the first n numbers of `plan`. Refusals 1 to 13.
+ * One round on the assignment in the first n numbers of `plan`. The job's refusals, then 11 to 13.
  *   0, 0, 0, 0   settled: the assignment is legal; only scratch is written
  *   1, v, A, B   moved: v is the lowest FPGA with a load above w, A its lowest crossbar with a load
  *                above w, B its lowest with a load below w. Nets of A and B are spread anew over A
@@ -154,8 +158,8 @@ uint16_t hogvuldur_one_round(const uint8_t *job, size_t job_length,
                              uint16_t *scratch, size_t scratch_length, uint64_t answer[4]);
 
 /*
- * Rounds from the assignment in the first n numbers of `plan` until it is legal. Refusals 1 to 13.
- * Answer: how many rounds were made, and the total excess before the first.
+ * Rounds from the assignment in the first n numbers of `plan` until it is legal. The job's refusals,
+ * then 11 to 13. Answer: how many rounds were made, and the total excess before the first.
  */
 uint16_t hogvuldur_finish(const uint8_t *job, size_t job_length,
                           uint16_t *plan, size_t plan_length,
@@ -163,15 +167,16 @@ uint16_t hogvuldur_finish(const uint8_t *job, size_t job_length,
 
 /*
  * Net i to crossbar i mod c, then finish. The result, in the first n numbers of `plan`, is legal
- * and its totals are within one of each other. Refusals 1 to 12. Answer as of finish.
+ * and its totals are within one of each other. The job's refusals, then 11 and 12. Answer as of
+ * finish.
  */
 uint16_t hogvuldur_plan(const uint8_t *job, size_t job_length,
                         uint16_t *plan, size_t plan_length,
                         uint16_t *scratch, size_t scratch_length, uint64_t answer[4]);
 
 /*
- * Writes the sheet of a job and an assignment to the first 12 + 2n + 2c bytes of `room`. Refusals
- * 1 to 11, then 13, 24, 25. The audit accepts what it writes. Answer: the bytes written.
+ * Writes the sheet of a job and an assignment to the first 12 + 2n + 2c bytes of `room`. The job's
+ * refusals, then 11, 13, 24, 25. The audit accepts what it writes. Answer: the bytes written.
  */
 uint16_t hogvuldur_write_sheet(const uint8_t *job, size_t job_length,
                                const uint16_t *plan, size_t plan_length,
@@ -186,7 +191,7 @@ uint16_t hogvuldur_read_sheet(const uint8_t *job, size_t job_length,
                               uint16_t *plan, size_t plan_length, uint64_t answer[4]);
 
 /*
- * Audits a sheet against a job. Refusals 1 to 10, then 21 to 26 in that order. Done exactly when
+ * Audits a sheet against a job. The job's refusals, then 21 to 26 in that order. Done exactly when
  * the sheet is what the writer writes for some legal balanced assignment of that job.
  */
 uint16_t hogvuldur_audit(const uint8_t *job, size_t job_length,
@@ -194,21 +199,22 @@ uint16_t hogvuldur_audit(const uint8_t *job, size_t job_length,
 
 /*
  * Makes the audit and says which bytes are at fault: 0 for the job or 1 for the sheet, the first
- * byte, and how many. Four job bytes of the net for 9 and 10; two sheet bytes for 22, 23 (the
- * net's number) and 26 (the written total); otherwise the empty start of the job: 0, 0, 0.
+ * byte, and how many. The two job bytes at q for 9 and 27, the four of the net for 10; two sheet
+ * bytes for 22, 23 (the net's number) and 26 (the written total); otherwise the empty start of the
+ * job: 0, 0, 0.
  */
 void hogvuldur_evidence(const uint8_t *job, size_t job_length,
                         const uint8_t *sheet, size_t sheet_length, uint64_t answer[4]);
 
 /*
- * Spare of FPGA v: w times c minus its degree. Refusals 1 to 10 and 12 for the job; then 9 for v at
- * or above f, p being v.
+ * Spare of FPGA v: w times c minus its degree. The job's refusals, then 12; then 9 for v at or above
+ * f, p being v and q 0.
  */
 uint16_t hogvuldur_spare(const uint8_t *job, size_t job_length, uint16_t v, uint64_t answer[4]);
 
 /*
- * Headroom of FPGAs v and w: the smaller spare. Refusals 1 to 10 and 12 for the job; then 9 for v
- * and for w, 10 if they are equal, p being that number.
+ * Headroom of FPGAs v and w: the smaller spare. The job's refusals, then 12; then 9 for v, 27 for w,
+ * 10 if they are equal, p being that number and q 0.
  */
 uint16_t hogvuldur_headroom(const uint8_t *job, size_t job_length, uint16_t v, uint16_t w,
                             uint64_t answer[4]);

@@ -80,8 +80,14 @@ static void jobs(void)
     IS(check_with(7, 63), HOGVULDUR_DONE);
     IS(check_with(8, 17), HOGVULDUR_TOO_MANY_NETS);
     IS(check_with(9, NETS - 1), HOGVULDUR_JOB_TOO_LONG);
-    IS(check_with(11, 2), HOGVULDUR_NO_SUCH_FPGA);
+    IS(check_with(11, 2), HOGVULDUR_NO_SUCH_FIRST_FPGA);
+    STANDS(HOGVULDUR_P, 0);
+    STANDS(HOGVULDUR_Q, 10);
+    IS(check_with(17, 2), HOGVULDUR_NO_SUCH_SECOND_FPGA);
+    STANDS(HOGVULDUR_P, 1);
+    STANDS(HOGVULDUR_Q, 16);
     IS(check_with(11, 1), HOGVULDUR_FPGA_TWICE);
+    STANDS(HOGVULDUR_Q, 12);
     hogvuldur_numbers(job, job_long, answer);
     STANDS(HOGVULDUR_F, 2);
     STANDS(HOGVULDUR_C, 2);

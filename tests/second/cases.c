@@ -2,6 +2,7 @@
 
 #include <string.h>
 
+#include "cover.h"
 #include "hold.h"
 #include "report.h"
 #include "sheet.h"
@@ -75,7 +76,7 @@ void case_write_job(const unsigned number[4], struct list ends, size_t room_leng
     hold(&call, &expected);
 }
 
-/* Refusals 1 to 10 and 12, which come before any question about an FPGA. */
+/* The job's refusals and 12, which come before any question about an FPGA. */
 static struct verdict check_for_spare(struct file file, struct job *job)
 {
     struct verdict verdict = read_job(file, job);
@@ -94,11 +95,23 @@ void case_spare(struct file file, unsigned fpga)
     struct job job;
     struct call call = call_on(CALL_SPARE, file);
     struct verdict verdict = check_for_spare(file, &job);
-    if (verdict.number == 0 && fpga >= job.f) verdict = refuse(9, fpga, 0);
+    if (verdict.number == 0) {
+        if (fpga >= job.f) verdict = refuse(9, fpga, 0);
+        cover_asked(CALL_SPARE, verdict.number);
+    }
     struct expected expected = expect_refusal(verdict);
     if (verdict.number == 0) expected = expect_answer(spare(&job, fpga), 0, 0, 0);
     call.number[0] = fpga;
     hold(&call, &expected);
+}
+
+/* Of two FPGAs asked about; no byte is at fault, so the second place is 0. */
+static struct verdict check_asked(unsigned f, unsigned first, unsigned second)
+{
+    if (first >= f) return refuse(9, first, 0);
+    if (second >= f) return refuse(27, second, 0);
+    if (first == second) return refuse(10, first, 0);
+    return done;
 }
 
 void case_headroom(struct file file, unsigned first, unsigned second)
@@ -106,9 +119,10 @@ void case_headroom(struct file file, unsigned first, unsigned second)
     struct job job;
     struct call call = call_on(CALL_HEADROOM, file);
     struct verdict verdict = check_for_spare(file, &job);
-    if (verdict.number == 0 && first >= job.f) verdict = refuse(9, first, 0);
-    if (verdict.number == 0 && second >= job.f) verdict = refuse(9, second, 0);
-    if (verdict.number == 0 && first == second) verdict = refuse(10, first, 0);
+    if (verdict.number == 0) {
+        verdict = check_asked(job.f, first, second);
+        cover_asked(CALL_HEADROOM, verdict.number);
+    }
     struct expected expected = expect_refusal(verdict);
     if (verdict.number == 0) {
         unsigned one = spare(&job, first), other = spare(&job, second);

@@ -6,9 +6,10 @@
 #include "calls.h"
 #include "report.h"
 
-enum { MOST_REFUSAL = 26, MANY_ROUNDS = 20 };
+enum { MOST_REFUSAL = 27, MANY_ROUNDS = 20 };
 
 static unsigned long answers[CALL_COUNT + 1][MOST_REFUSAL + 1];
+static unsigned long asked[CALL_COUNT + 1][MOST_REFUSAL + 1];
 
 static struct {
     unsigned long rounds, with_odd_group, with_odd_groups, newly_over;
@@ -23,6 +24,11 @@ static unsigned long odd_at_limit[CALL_COUNT + 1], odd_above[CALL_COUNT + 1];
 void cover_answer(unsigned call, unsigned refusal)
 {
     answers[call][refusal]++;
+}
+
+void cover_asked(unsigned call, unsigned refusal)
+{
+    asked[call][refusal]++;
 }
 
 /* Whether the round put a new pair over the width. */
@@ -92,6 +98,8 @@ void cover_print(void)
             if (answers[call][refusal] > 0) printf(" %u: %lu", refusal, answers[call][refusal]);
         putchar('\n');
     }
+    printf("  of FPGAs asked about: spare 9: %lu; headroom 9: %lu 10: %lu 27: %lu\n", asked[CALL_SPARE][9],
+           asked[CALL_HEADROOM][9], asked[CALL_HEADROOM][10], asked[CALL_HEADROOM][27]);
     printf("  rounds %lu: with one odd group %lu, with more %lu, with a new pair over the width %lu\n", seen.rounds,
            seen.with_odd_group, seen.with_odd_groups, seen.newly_over);
     printf("  chains %lu: settled at once %lu, of %d rounds or more %lu, with a degree at the limit %lu\n", seen.chains,
@@ -104,15 +112,15 @@ void cover_print(void)
            seen.most_excess);
 }
 
-/* The refusals that document 01 names for each call; of calls that only read, those of the job. */
+/* The refusals that documents 01 and 02 name for each call; of calls that only read, those of the job. */
 static bool is_due(unsigned call, unsigned refusal)
 {
-    bool job = refusal >= 1 && refusal <= 10, sheet = refusal >= 21 && refusal <= 26;
+    bool job = (refusal >= 1 && refusal <= 10) || refusal == 27, sheet = refusal >= 21 && refusal <= 26;
     switch (call) {
-    case CALL_WRITE_JOB: return (refusal >= 3 && refusal <= 11 && refusal != 8);
+    case CALL_WRITE_JOB: return (job && refusal > 2 && refusal != 8) || refusal == 11;
     case CALL_ONE_ROUND:
-    case CALL_FINISH: return refusal >= 1 && refusal <= 13;
-    case CALL_PLAN: return refusal >= 1 && refusal <= 12;
+    case CALL_FINISH: return job || (refusal >= 11 && refusal <= 13);
+    case CALL_PLAN: return job || refusal == 11 || refusal == 12;
     case CALL_WRITE_SHEET: return job || refusal == 11 || refusal == 13 || refusal == 24 || refusal == 25;
     case CALL_READ_SHEET: return job || sheet || refusal == 11;
     case CALL_AUDIT:
@@ -139,6 +147,9 @@ void cover_demand(bool with_listing)
             if (is_due(call, refusal) && answers[call][refusal] == 0)
                 report_failure("never covered: %s with refusal %u", call_names[call], refusal);
     }
+    demand(asked[CALL_SPARE][9] > 0, "spare of an FPGA that the board has not");
+    demand(asked[CALL_HEADROOM][9] > 0 && asked[CALL_HEADROOM][27] > 0 && asked[CALL_HEADROOM][10] > 0,
+           "headroom of a first and of a second FPGA that the board has not, and of one twice");
     demand(seen.settled > 0, "a chain of no rounds");
     demand(seen.rounds > 0, "a round that moves nets");
     demand(seen.many > 0, "a chain of many rounds");

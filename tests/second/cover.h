@@ -7,6 +7,9 @@
 /* A call was to answer with this refusal, or 0 for done. */
 void cover_answer(unsigned call, unsigned refusal);
 
+/* A call was to answer so to the FPGAs asked about, on a job that it accepts. */
+void cover_asked(unsigned call, unsigned refusal);
+
 /* A call was to plan this job, or to refuse it. */
 void cover_degrees(unsigned call, const struct job *job, unsigned refusal);
 
@@ -18,7 +21,7 @@ void cover_chain(const struct job *job, uint64_t rounds, uint64_t excess);
 
 void cover_print(void);
 
-/* Reports each thing that document 01 names and that never occurred. */
+/* Reports each thing that document 01 or 02 names and that never occurred. */
 void cover_demand(bool with_listing);
 
 #endif

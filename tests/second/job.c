@@ -41,8 +41,10 @@ struct verdict check_numbers(unsigned f, unsigned c, unsigned m, unsigned n)
 
 struct verdict check_net(unsigned f, unsigned net, unsigned x, unsigned y)
 {
-    if (x >= f || y >= f) return refuse(9, net, 0);
-    if (x == y) return refuse(10, net, 0);
+    size_t first = job_size(net), second = first + 2; /* the bytes of its two numbers */
+    if (x >= f) return refuse(9, net, first);
+    if (y >= f) return refuse(27, net, second);
+    if (x == y) return refuse(10, net, second);
     return done;
 }
 

@@ -1,4 +1,4 @@
-/* Job files, and the refusals 1 to 10 that their bytes can meet. */
+/* Job files, and the refusals that their bytes can meet: 1 to 10 and 27. */
 #ifndef JOB_H
 #define JOB_H
 
@@ -49,10 +49,10 @@ unsigned usable_width(unsigned m);
 /* Refusals 3 to 7 of a board's numbers. */
 struct verdict check_numbers(unsigned f, unsigned c, unsigned m, unsigned n);
 
-/* Refusals 9 and 10 of one net. */
+/* Refusals 9, 27 and 10 of one net (27 and the second place by ticket 2). */
 struct verdict check_net(unsigned f, unsigned net, unsigned x, unsigned y);
 
-/* Refusals 1 to 10. Of a refused job all numbers are 0. */
+/* The job's refusals. Of a refused job all numbers are 0. */
 struct verdict read_job(struct file file, struct job *job);
 
 /* The FPGA at end 0 or 1 of a net. */

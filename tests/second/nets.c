@@ -19,7 +19,7 @@ static void some_calls(struct file job, unsigned n)
     case_plan(job, plan, LEAST_SCRATCH);
 }
 
-/* Makes a net faulty, for 9 or for 10, and now and then leaves it as it is. */
+/* Makes a net faulty, for 9, 27 or 10, and now and then leaves it as it is. */
 static void spoil(uint16_t *ends, unsigned f)
 {
     const unsigned outside[] = {f, f + 1, 255, 256, 65535};

@@ -47,13 +47,13 @@ static void must_give_sheet(struct file job, const char *sheet, size_t length)
 }
 
 /* The plan call refuses the job with this. All calls are made on it. */
-static void must_refuse(struct file file, unsigned number, uint64_t p)
+static void must_refuse(struct file file, unsigned number, uint64_t p, uint64_t q)
 {
     struct job job;
     struct verdict verdict = read_job(file, &job);
     struct list plan = plan_of(file);
     if (verdict.number == 0) verdict = check_degrees(&job);
-    must(verdict.number == number && verdict.p == p, "the refusal is the one given there");
+    must(verdict.number == number && verdict.p == p && verdict.q == q, "the refusal is the one given there");
     every_call(file, plan, file);
 }
 
@@ -64,15 +64,15 @@ static void cases_1_to_5(void)
     report_part("numbered case", 2);
     must_give_sheet(job_of(3, 2, 2, "01 12 20 01"), "\0\3\0\3\0\2\0\2\0\4\0\0\0\1\0\0\0\1\0\2\0\2\0\2", 24);
     report_part("numbered case", 3);
-    must_refuse(job_of(2, 1, 2, "01 01"), 0, 0);
-    must_refuse(job_of(2, 1, 2, "01 01 01"), 12, 0);
+    must_refuse(job_of(2, 1, 2, "01 01"), 0, 0, 0);
+    must_refuse(job_of(2, 1, 2, "01 01 01"), 12, 0, 0);
     report_part("numbered case", 4);
-    must_refuse(job_of(3, 2, 1, "01 12 20"), 6, 6);
+    must_refuse(job_of(3, 2, 1, "01 12 20"), 6, 6, 0);
     report_part("numbered case", 5);
-    must_refuse(job_of(3, 2, 0, "01 12 20"), 5, 6);
-    must_refuse(job_of(3, 2, 65, "01 12 20"), 5, 6);
-    must_refuse(job_of(3, 2, 64, "01 12 20"), 0, 0);
-    must_refuse(job_of(3, 2, 63, "01 12 20"), 0, 0); /* by ticket 1 */
+    must_refuse(job_of(3, 2, 0, "01 12 20"), 5, 6, 0);
+    must_refuse(job_of(3, 2, 65, "01 12 20"), 5, 6, 0);
+    must_refuse(job_of(3, 2, 64, "01 12 20"), 0, 0, 0);
+    must_refuse(job_of(3, 2, 63, "01 12 20"), 0, 0, 0); /* by ticket 1 */
 }
 
 static void case_6(void)
@@ -122,17 +122,17 @@ static void case_8(void)
 static void cases_9_to_11(void)
 {
     report_part("numbered case", 9);
-    must_refuse(job_of(5, 2, 2, "01 55"), 9, 1);
-    must_refuse(job_of(6, 2, 2, "01 55"), 10, 1);
+    must_refuse(job_of(5, 2, 2, "01 55"), 9, 1, 14);
+    must_refuse(job_of(6, 2, 2, "01 55"), 10, 1, 16);
     report_part("numbered case", 10);
     /* The lengths around n 4,096 and 4,097 are among the limits. */
     struct file job = job_of(5, 2, 2, "01 12");
     job.length++;
-    must_refuse(job, 8, 18);
+    must_refuse(job, 8, 18, 0);
     report_part("numbered case", 11);
     job = job_of(3, 1, 2, "01 12 20");
     must(case_plan(job, plan_of(job), LEAST_SCRATCH) && last_rounds() == 0, "c 1 is settled at once");
-    must_refuse(job_of(3, 1, 2, "01 12 20 21"), 12, 1);
+    must_refuse(job_of(3, 1, 2, "01 12 20 21"), 12, 1, 0);
 }
 
 /* Three wires of which two are usable. On one crossbar three nets are within the wires and above the limit. */
@@ -140,13 +140,40 @@ static void ticket_1(void)
 {
     report_part("ticket", 1);
     must_give_sheet(job_of(2, 2, 3, "01 01 01 01"), "\0\3\0\2\0\2\0\3\0\4\0\0\0\1\0\0\0\1\0\2\0\2\0\2", 24);
-    must_refuse(job_of(2, 2, 3, "01 01 01 01 01"), 12, 0);
-    must_refuse(job_of(2, 1, 3, "01 01"), 0, 0);
-    must_refuse(job_of(2, 1, 3, "01 01 01"), 12, 0);
+    must_refuse(job_of(2, 2, 3, "01 01 01 01 01"), 12, 0, 0);
+    must_refuse(job_of(2, 1, 3, "01 01"), 0, 0, 0);
+    must_refuse(job_of(2, 1, 3, "01 01 01"), 12, 0, 0);
     struct file job = job_of(3, 2, 5, "01 01 01 01 01 12 12 12");
     struct list plan = plan_of(job);
     memset(numbers, 0, sizeof numbers);
     must(case_rounds(job, plan, LEAST_SCRATCH) && last_excess() == 5 && last_rounds() == 1, "loads 5, 8 and 3 at width 4");
+}
+
+/* The job is refused with this, and so is the writing of it; evidence is the bytes given. */
+static void must_point(struct file job, unsigned number, uint64_t net, uint64_t byte, struct evidence bytes)
+{
+    struct list ends = {board.ends, 2 * (size_t)board.number[3]};
+    struct evidence found = evidence(job, job);
+    must_refuse(job, number, net, byte);
+    case_write_job(board.number, ends, job.length);
+    must(found.file == bytes.file && found.first == bytes.first && found.size == bytes.size, "the evidence");
+}
+
+/* Net 1, whose numbers stand at bytes 14 and 16, wrong at either end and at both; and the same two asked about. */
+static void ticket_2(void)
+{
+    static const struct evidence first = {0, 14, 2}, second = {0, 16, 2}, both = {0, 14, 4};
+    report_part("ticket", 2);
+    must_point(job_of(5, 2, 2, "01 54"), 9, 1, 14, first);
+    must_point(job_of(5, 2, 2, "01 45"), 27, 1, 16, second);
+    must_point(job_of(5, 2, 2, "01 56"), 9, 1, 14, first);
+    must_point(job_of(5, 2, 2, "01 44"), 10, 1, 16, both);
+    must_point(job_of(5, 2, 2, "01 45 55"), 27, 1, 16, second);
+    struct file job = job_of(5, 2, 2, "01");
+    case_headroom(job, 5, 4);
+    case_headroom(job, 4, 5);
+    case_headroom(job, 5, 5);
+    case_headroom(job, 4, 4);
 }
 
 /* Case 8 twice on one board: two odd groups, and the totals may still differ by one only. */
@@ -191,6 +218,7 @@ void run_numbered(void)
     case_8();
     cases_9_to_11();
     ticket_1();
+    ticket_2();
     two_odd_groups();
     case_2_damaged();
 }

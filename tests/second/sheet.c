@@ -87,8 +87,11 @@ struct evidence evidence(struct file job_file, struct file sheet)
     struct verdict verdict = audit(job_file, sheet);
     struct evidence at = {0, 0, 0};
     read_job(job_file, &job);
-    if (verdict.number == 9 || verdict.number == 10) {
-        at.first = JOB_HEAD + 4 * verdict.p;
+    if (verdict.number == 9 || verdict.number == 27) {
+        at.first = verdict.q;
+        at.size = 2;
+    } else if (verdict.number == 10) {
+        at.first = job_size((unsigned)verdict.p);
         at.size = 4;
     } else if (verdict.number == 22 || verdict.number == 23 || verdict.number == 26) {
         at.file = 1;

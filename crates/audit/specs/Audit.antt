@@ -1,4 +1,4 @@
--- The audit of a sheet against a job: refusals 1 to 10, then 21 to 26. The sheet writer and the sheet reader refuse by the same parts.
+-- The audit of a sheet against a job: the job's refusals, then 21 to 26. The sheet writer and the sheet reader refuse by the same parts.
 use mathlib.Core.Bool.{Bool, not}
 use mathlib.Core.List.{List}
 use mathlib.Core.Path.{_≡_}

@@ -72,6 +72,9 @@ table-holds =
     and (refl, refl, refl)
     and (refl, refl, refl)
     and refl
+    and (refl, refl, refl)
+    and (refl, refl, refl)
+    and (refl, refl, refl)
     and tt
 
 -- so the rows of each case do

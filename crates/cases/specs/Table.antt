@@ -125,8 +125,8 @@ table =
     ∷ (7, rounds seven (start₇ ∷ stops₇))
     ∷ (8, oneRound eight start₈)
     ∷ (8, always eight start₈ 0 (2 ∷ 2 ∷ []) (3 ∷ 2 ∷ []))
-    ∷ (9, refused (board 5 1 2 ((5, 5) ∷ [])) 9 0 0)
-    ∷ (9, refused (board 6 1 2 ((5, 5) ∷ [])) 10 0 0)
+    ∷ (9, refused (board 5 1 2 ((5, 5) ∷ [])) 9 0 10)
+    ∷ (9, refused (board 6 1 2 ((5, 5) ∷ [])) 10 0 12)
     ∷ (
       request 1,
       sheet (board 2 2 3 (replicate 4 (0, 1)))
@@ -135,6 +135,9 @@ table =
     ∷ (request 1, refused (board 2 2 3 (replicate 5 (0, 1))) 12 0 0)
     ∷ (request 1, refused three 12 0 0)
     ∷ (request 1, legal (wiredIn three) (replicate 3 0 ∷ []))
+    ∷ (request 2, refused (board 5 1 2 ((0, 1) ∷ (5, 4) ∷ [])) 9 1 14)
+    ∷ (request 2, refused (board 5 1 2 ((0, 1) ∷ (4, 5) ∷ [])) 27 1 16)
+    ∷ (request 2, refused (board 5 1 2 ((0, 1) ∷ (4, 4) ∷ [])) 10 1 16)
     ∷ []
 
 -- the rows of one case

@@ -5,12 +5,12 @@ use Prim.Native.Nat.{ℕ, _+_, _*_}
 use lib.Dec.{eqb}
 use denote.Ref.{RefT, now}
 use Rattle.words.specs.declared.Place.{Place}
-use Rattle.words.specs.declared.Place.the-variants.{Byte, Net, Fpga, Crossbar, Load, Length, Nowhere}
+use Rattle.words.specs.declared.Place.the-variants.{Byte, Net, End, Fpga, Crossbar, Load, Length, Nowhere}
 use Rattle.words.specs.declared.Refusal.{Refusal}
 use Rattle.words.specs.declared.Verdict.{Verdict}
 use Rattle.words.specs.declared.Verdict.the-variants.{Done, Refused}
 use Rattle.words.specs.Lent.{Stretch}
-use Rattle.job.specs.Job.{netsAt}
+use Rattle.job.specs.Job.{netsAt, firstAt}
 use Rattle.job.specs.Check.{jobVerdict}
 use Rattle.sheet.specs.Sheet.{totalsAt}
 use Rattle.audit.specs.Audit.{againstVerdict}
@@ -27,21 +27,23 @@ inSheet from long = record { sheet = true; start = from; long = long }
 abbrev pub nothing : Fault
 nothing = inJob 0 0
 
--- a stretch by the place of a refusal: its byte, its net or its crossbar
-abbrev pub byPlace : (ℕ → Fault) → (ℕ → Fault) → (ℕ → Fault) → Place → Fault
-byPlace byte net crossbar (Byte p) = byte p
-byPlace byte net crossbar (Net i) = net (i .0)
-byPlace byte net crossbar (Fpga v) = nothing
-byPlace byte net crossbar (Crossbar x) = crossbar (x .0)
-byPlace byte net crossbar (Load v x) = nothing
-byPlace byte net crossbar (Length n) = nothing
-byPlace byte net crossbar Nowhere = nothing
+-- a stretch by the place of a refusal: its byte, its net, a number of a net or its crossbar
+abbrev pub byPlace : (ℕ → Fault) → (ℕ → Fault) → (ℕ → ℕ → Fault) → (ℕ → Fault) → Place → Fault
+byPlace byte net end crossbar (Byte p) = byte p
+byPlace byte net end crossbar (Net i) = net (i .0)
+byPlace byte net end crossbar (End i at) = end (i .0) at
+byPlace byte net end crossbar (Fpga v) = nothing
+byPlace byte net end crossbar (Crossbar x) = crossbar (x .0)
+byPlace byte net end crossbar (Load v x) = nothing
+byPlace byte net end crossbar (Length n) = nothing
+byPlace byte net end crossbar Nowhere = nothing
 
--- of a job's refusal: 9 and 10, the four bytes of the net
+-- of a job's refusal: 9 and 27, the number at its byte; 10, both numbers of the net
 unfoldable pub jobFault : List ℕ → Refusal → Fault
 jobFault job r =
-    byPlace (λ _. nothing)
-    (λ i. cond (eqb (r .number) 9 || eqb (r .number) 10) (inJob (netsAt job + 4 * i) 4) nothing)
+    let k = r .number in
+    byPlace (λ _. nothing) (λ _. nothing)
+    (λ i at. cond (eqb k 9 || eqb k 27) (inJob at 2) (cond (eqb k 10) (inJob (firstAt (netsAt job) i) 4) nothing))
     (λ _. nothing) (r .place)
 
 -- of a sheet's refusal: 22, the number at the byte; 23, the net's number; 26, the written total
@@ -49,6 +51,7 @@ unfoldable pub sheetFault : List ℕ → Refusal → Fault
 sheetFault job r =
     byPlace (λ p. cond (eqb (r .number) 22) (inSheet p 2) nothing)
     (λ i. cond (eqb (r .number) 23) (inSheet (netsAt job + 2 * i) 2) nothing)
+    (λ _ _. nothing)
     (λ x. cond (eqb (r .number) 26) (inSheet (totalsAt job + 2 * x) 2) nothing) (r .place)
 
 -- of a verdict, with what is found where it is done

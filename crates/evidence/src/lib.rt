@@ -5,10 +5,11 @@ ghost use Prim.Native.Nat.{_+_, _≤_};
 ghost use lib.ListN.{length};
 ghost use Rattle.words.specs.Lent.{Stretch};
 ghost use Rattle.job.specs.Check.{WellFormed};
-ghost use Rattle.evidence.specs.Evidence.{inSheet, nothing, jobFault, sheetFault, auditFault, Evidence};
+ghost use Rattle.evidence.specs.Evidence.{inJob, inSheet, nothing, jobFault, sheetFault, auditFault, Evidence};
 use audit::audit::check_sheet;
 use job::Checked;
 use job::Head;
+use job::read::first_at;
 use job::read::nets_at;
 use job::well_formed::check_job;
 use sheet::totals_at;
@@ -25,15 +26,22 @@ pub struct Fault {
     pub long: usize,
 }
 
+// So many bytes of the job.
+fn in_job(start: usize, long: usize) -> Fault
+    ensures { λ r. ⌜ r ≡ inJob start long ⌝ }
+{
+    Fault {
+        sheet: false,
+        start,
+        long,
+    }
+}
+
 // The empty start of the job.
 fn nothing() -> Fault
     ensures { λ r. ⌜ r ≡ nothing ⌝ }
 {
-    Fault {
-        sheet: false,
-        start: 0,
-        long: 0,
-    }
+    in_job(0, 0)
 }
 
 // This stretch, where a refusal has the number that points there.
@@ -53,16 +61,16 @@ fn job_fault(job: &[u8], refusal: Refusal) -> Fault
     let number = refusal.number;
     let place = refusal.place;
     match place {
-        Place::Net(i) => {
-            let net = Fault {
-                sheet: false,
-                start: nets_at(job) + 4 * wide(i.0),
-                long: 4,
-            };
+        Place::End(i, at) => {
+            let wrong = in_job(at, 2);
+            let both = in_job(first_at(nets_at(job), wide(i.0)), 4);
             if number == 9 {
-                return net;
+                return wrong;
             }
-            fault_if(number == 10, net)
+            if number == 27 {
+                return wrong;
+            }
+            fault_if(number == 10, both)
         }
         _ => nothing(),
     }

@@ -4,4 +4,5 @@ pub mod Stages
 pub mod Passing
 pub mod Width
 pub mod Sound
+pub mod WrongEnd
 pub mod Reading

@@ -26,7 +26,7 @@ passes job done =
       start = refl;
       ranged = ranged _ _ _ _ (its-ranges job (its-head job done));
       long = its-length job (its-end job done);
-      nets = all-join _ _ _ _ (its-nets job done);
+      nets = all-join _ _ _ _ _ (its-nets job done);
     }
 
 -- the stages as the code comes to them, with the head that it has read
@@ -34,7 +34,7 @@ module _ (job : List ℕ) (h : Head) (e : h ≡ headIn job) (head : headVerdict 
   pub head-few : h .n ≤ 4096
   head-few = rw e (ranged _ _ _ _ (its-ranges job head) .n-high)
 
-  pub nets-decide : lengthVerdict job ≡ verdict.Done → (v : Verdict) → v ≡ netsVerdict (h .f) (firstIn job) (secondIn job) (h .n) → jobVerdict job ≡ v
+  pub nets-decide : lengthVerdict job ≡ verdict.Done → (v : Verdict) → v ≡ netsVerdict (h .f) (h .start) (firstIn job) (secondIn job) (h .n) → jobVerdict job ≡ v
   nets-decide long v q = by-nets job head long ∙ sym (rw e at q)
 
 -- an answer that was given by a verdict, taken apart

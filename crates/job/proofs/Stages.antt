@@ -13,7 +13,7 @@ use Rattle.words.specs.declared.Verdict.the-variants.{Done, Refused}
 use Rattle.words.specs.Verdict.{refuse, refuseIf, _then_, atByte, ofLength}
 use Rattle.words.specs.Number.{word}
 use Rattle.words.proofs.Order.{then-first, then-second, then-refused, then-next, passed, first-done}
-use Rattle.job.specs.Job.{headLong, jobLength, fIn, cIn, mIn, nIn, firstIn, secondIn}
+use Rattle.job.specs.Job.{headLong, netsAt, jobLength, fIn, cIn, mIn, nIn, firstIn, secondIn}
 use Rattle.job.specs.Check.{outside, shortVerdict, countVerdict, rangesVerdict, headVerdict, lengthVerdict, netVerdict, netsVerdict, jobVerdict, Ranged, Joins}
 
 -- ---- 3 to 7
@@ -46,21 +46,21 @@ ranged f c m n h =
       n-high = ltb-false _ _ (passed _ 7 _ (then-second _ _ h4));
     }
 
--- ---- 9 and 10
+-- ---- 9, 27 and 10
 
-pub joins : (f i v w : ℕ) → netVerdict f i v w ≡ Done → Joins f v w
+pub joins : (f start i v w : ℕ) → netVerdict f start i v w ≡ Done → Joins f v w
 unfolding netVerdict
-joins f i v w h =
+joins f start i v w h =
     let h2 = then-second _ _ h in
     record {
       first-in = leb-false _ _ (passed _ 9 _ (then-first _ _ h));
-      second-in = leb-false _ _ (passed _ 9 _ (then-first _ _ h2));
+      second-in = leb-false _ _ (passed _ 27 _ (then-first _ _ h2));
       apart = eqb-false _ _ (passed _ 10 _ (then-second _ _ h2));
     }
 
-pub all-join : (f : ℕ) (first second : ℕ → ℕ) (n : ℕ) → netsVerdict f first second n ≡ Done → (i : ℕ) → i < n → Joins f (first i) (second i)
+pub all-join : (f start : ℕ) (first second : ℕ → ℕ) (n : ℕ) → netsVerdict f start first second n ≡ Done → (i : ℕ) → i < n → Joins f (first i) (second i)
 unfolding netsVerdict
-all-join f first second n h i l = joins f i (first i) (second i) (first-done (λ k. netVerdict f k (first k) (second k)) n h i l)
+all-join f start first second n h i l = joins f start i (first i) (second i) (first-done (λ k. netVerdict f start k (first k) (second k)) n h i l)
 
 module _ (job : List ℕ) where
   -- ---- the head
@@ -123,7 +123,7 @@ module _ (job : List ℕ) where
     unfolding jobVerdict
     refused-length r h = then-next _ _ head ∙ then-refused _ _ r h
 
-    pub by-nets : lengthVerdict job ≡ Done → jobVerdict job ≡ netsVerdict (fIn job) (firstIn job) (secondIn job) (nIn job)
+    pub by-nets : lengthVerdict job ≡ Done → jobVerdict job ≡ netsVerdict (fIn job) (netsAt job) (firstIn job) (secondIn job) (nIn job)
     unfolding jobVerdict
     by-nets h = then-next _ _ head ∙ then-next _ _ h
 
@@ -136,6 +136,6 @@ module _ (job : List ℕ) where
     unfolding jobVerdict
     its-end = then-first _ _ (then-second _ _ done)
 
-    pub its-nets : netsVerdict (fIn job) (firstIn job) (secondIn job) (nIn job) ≡ Done
+    pub its-nets : netsVerdict (fIn job) (netsAt job) (firstIn job) (secondIn job) (nIn job) ≡ Done
     unfolding jobVerdict
     its-nets = then-second _ _ (then-second _ _ done)

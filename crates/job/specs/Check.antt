@@ -1,18 +1,18 @@
--- The job check: done, or refusal 1 to 10, in the order of document 01.
+-- The job check: done, or a refusal (1 to 10, 27), in the order of document 01, with 27 in document 02's place.
 use mathlib.Core.Bool.{Bool, not, _||_}
 use mathlib.Core.List.{List}
 use mathlib.Core.Path.{_≡_}
-use Prim.Native.Nat.{ℕ, _+_, _*_, _≤_, _<_}
+use Prim.Native.Nat.{ℕ, _≤_, _<_}
 use lib.Dec.{ltb, leb, eqb}
 use lib.ListN.{length}
 use Rattle.words.specs.declared.Verdict.{Verdict}
 use Rattle.words.specs.declared.Verdict.the-variants as verdict
-use Rattle.words.specs.Verdict.{refuseIf, _then_, firstRefusal, atByte, atNet, ofLength}
+use Rattle.words.specs.Verdict.{refuseIf, _then_, firstRefusal, atByte, atEnd, ofLength}
 use Rattle.words.specs.Number.{word}
 use Rattle.job.specs.declared.Head.{Head}
 use Rattle.job.specs.declared.Checked.{Checked}
 use Rattle.job.specs.declared.Checked.the-variants.{Passed, Refused}
-use Rattle.job.specs.Job.{fAt, cAt, mAt, nAt, headLong, netsAt, jobLength, fIn, cIn, mIn, nIn, usableWidth, headIn, firstIn, secondIn}
+use Rattle.job.specs.Job.{fAt, cAt, mAt, nAt, headLong, netsAt, jobLength, firstAt, secondAt, fIn, cIn, mIn, nIn, usableWidth, headIn, firstIn, secondIn}
 
 -- ---- the stages
 
@@ -47,21 +47,21 @@ lengthVerdict job =
     refuseIf (ltb (length job) (jobLength job)) 1 (ofLength (length job)) then
     refuseIf (ltb (jobLength job) (length job)) 8 (atByte (jobLength job))
 
--- net i, between FPGAs v and w: a number at or above f, then the same number twice
-unfoldable pub netVerdict : ℕ → ℕ → ℕ → ℕ → Verdict
-netVerdict f i v w =
-    refuseIf (leb f v) 9 (atNet i) then
-    refuseIf (leb f w) 9 (atNet i) then
-    refuseIf (eqb v w) 10 (atNet i)
+-- net i, between FPGAs v and w, where the nets start at byte `start`: the first number at or above f, then the second, then the same number twice
+unfoldable pub netVerdict : ℕ → ℕ → ℕ → ℕ → ℕ → Verdict
+netVerdict f start i v w =
+    refuseIf (leb f v) 9 (atEnd i (firstAt start i)) then
+    refuseIf (leb f w) 27 (atEnd i (secondAt start i)) then
+    refuseIf (eqb v w) 10 (atEnd i (secondAt start i))
 
 -- the n nets in order
-unfoldable pub netsVerdict : ℕ → (ℕ → ℕ) → (ℕ → ℕ) → ℕ → Verdict
-netsVerdict f first second n = firstRefusal (λ i. netVerdict f i (first i) (second i)) n
+unfoldable pub netsVerdict : ℕ → ℕ → (ℕ → ℕ) → (ℕ → ℕ) → ℕ → Verdict
+netsVerdict f start first second n = firstRefusal (λ i. netVerdict f start i (first i) (second i)) n
 
 -- ---- the check
 
 unfoldable pub jobVerdict : List ℕ → Verdict
-jobVerdict job = headVerdict job then lengthVerdict job then netsVerdict (fIn job) (firstIn job) (secondIn job) (nIn job)
+jobVerdict job = headVerdict job then lengthVerdict job then netsVerdict (fIn job) (netsAt job) (firstIn job) (secondIn job) (nIn job)
 
 -- a verdict as an answer: passed, with the numbers of the job's head; or refused
 abbrev pub checkedBy : Verdict → Head → Checked
@@ -97,5 +97,5 @@ pub record WellFormed (job : List ℕ) (h : Head) : Type 0 where
   pub n : h .n ≡ nIn job
   pub start : h .start ≡ netsAt job
   pub ranged : Ranged (h .f) (h .c) (h .m) (h .n)
-  pub long : length job ≡ h .start + 4 * h .n
+  pub long : length job ≡ firstAt (h .start) (h .n)
   pub nets : (i : ℕ) → i < h .n → Joins (h .f) (firstIn job i) (secondIn job i)

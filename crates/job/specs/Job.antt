@@ -52,16 +52,23 @@ widthIn job v = usableWidth (mIn job)
 abbrev pub headIn : List ℕ → Head
 headIn job = record { f = fIn job; c = cIn job; m = mIn job; width = usableWidth (mIn job); n = nIn job; start = netsAt job }
 
--- the length of a job
+-- the bytes of the two numbers of net i, by the byte where the nets start
+abbrev pub firstAt : ℕ → ℕ → ℕ
+firstAt start i = start + 4 * i
+
+abbrev pub secondAt : ℕ → ℕ → ℕ
+secondAt start i = firstAt start i + 2
+
+-- the length of a job: the byte at which a net n would start
 abbrev pub jobLength : List ℕ → ℕ
-jobLength job = netsAt job + 4 * nIn job
+jobLength job = firstAt (netsAt job) (nIn job)
 
 -- the two FPGAs of net i
 abbrev pub firstIn : List ℕ → ℕ → ℕ
-firstIn job i = word job (netsAt job + 4 * i)
+firstIn job i = word job (firstAt (netsAt job) i)
 
 abbrev pub secondIn : List ℕ → ℕ → ℕ
-secondIn job i = word job (netsAt job + 2 + 4 * i)
+secondIn job i = word job (secondAt (netsAt job) i)
 
 -- all FPGA numbers of its nets, two for each net
 abbrev pub netsIn : List ℕ → List ℕ

@@ -8,7 +8,7 @@ use Rattle.job.specs.declared.Checked.{Checked}
 use Rattle.job.specs.declared.Checked.the-variants.{Passed, Refused}
 use Rattle.job.specs.declared.NetEnds.{NetEnds}
 use Rattle.job.specs.declared.NetEnds.the-variants.{Ends, NoNet}
-use Rattle.job.specs.Job.{netsAt, firstIn, secondIn}
+use Rattle.job.specs.Job.{netsAt, firstAt, firstIn, secondIn}
 
 abbrev pub netIf : Bool → NetEnds → NetEnds
 netIf true ends = ends
@@ -19,7 +19,7 @@ netIf false ends = NoNet
 unfoldable pub netAt : List ℕ → ℕ → ℕ → NetEnds
 netAt job n i =
     netIf (ltb i n)
-    (netIf (leb (netsAt job + 4 * (i + 1)) (length job))
+    (netIf (leb (firstAt (netsAt job) (i + 1)) (length job))
     (Ends (record { 0 = firstIn job i }) (record { 0 = secondIn job i })))
 
 -- the net section by the check's answer: its first byte and its length; of a refused job the empty start

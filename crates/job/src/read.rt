@@ -1,9 +1,9 @@
 // What a job says: the numbers of its head, its nets, and the section of the nets.
 ghost use mathlib.Core.Path.{_≡_};
-ghost use Prim.Native.Nat.{_+_, _*_, _≤_, _<_};
+ghost use Prim.Native.Nat.{_+_, _≤_, _<_};
 ghost use lib.ListN.{length};
 ghost use Rattle.words.specs.Lent.{Stretch};
-ghost use Rattle.job.specs.Job.{headLong, netsAt, usableWidth, headIn, firstIn, secondIn};
+ghost use Rattle.job.specs.Job.{headLong, netsAt, usableWidth, headIn, firstAt, secondAt, firstIn, secondIn};
 ghost use Rattle.words.specs.declared.Verdict.the-variants.{Done};
 ghost use Rattle.job.specs.Check.{jobVerdict, checkedOf};
 ghost use Rattle.job.specs.Read.{netAt, sectionFrom, sectionLong};
@@ -60,20 +60,36 @@ pub fn head_of(job: &[u8]) -> Head
     head_in(job)
 }
 
-// The FPGA at the first end of net i, where the nets start at byte `start`.
+// The byte of the first number of net i, where the nets start at byte `start`. Whoever needs a net's byte asks here.
+pub fn first_at(start: usize, i: usize) -> usize
+    requires { ⌜ secondAt start i < 18446744073709551616 ⌝ }
+    ensures { λ r. ⌜ r ≡ firstAt start i ⌝ }
+{
+    start + 4 * i
+}
+
+// The byte of its second number.
+pub fn second_at(start: usize, i: usize) -> usize
+    requires { ⌜ secondAt start i < 18446744073709551616 ⌝ }
+    ensures { λ r. ⌜ r ≡ secondAt start i ⌝ }
+{
+    first_at(start, i) + 2
+}
+
+// The FPGA at the first end of net i.
 pub fn first_end(job: &[u8], start: usize, i: usize) -> usize
-    requires { ⌜ (start ≡ netsAt (now job)) × (start + 4 * i + 3 < length (now job)) ⌝ }
+    requires { ⌜ (start ≡ netsAt (now job)) × (secondAt start i + 1 < length (now job)) ⌝ }
     ensures { λ r. ⌜ (r ≡ firstIn (now (job .entry)) i) × (r < 65536) ⌝ }
 {
-    wide(read(job, start + 4 * i))
+    wide(read(job, first_at(start, i)))
 }
 
 // The FPGA at its second end.
 pub fn second_end(job: &[u8], start: usize, i: usize) -> usize
-    requires { ⌜ (start ≡ netsAt (now job)) × (start + 4 * i + 3 < length (now job)) ⌝ }
+    requires { ⌜ (start ≡ netsAt (now job)) × (secondAt start i + 1 < length (now job)) ⌝ }
     ensures { λ r. ⌜ (r ≡ secondIn (now (job .entry)) i) × (r < 65536) ⌝ }
 {
-    wide(read(job, start + 2 + 4 * i))
+    wide(read(job, second_at(start, i)))
 }
 
 // Net i of a job that has n nets.
@@ -85,7 +101,7 @@ pub fn net_at(job: &[u8], n: Net, i: Net) -> NetEnds
     }
     let start = nets_at(job);
     let k = wide(i.0);
-    if job.len() < start + 4 * (k + 1) {
+    if job.len() < first_at(start, k + 1) {
         return NetEnds::NoNet;
     }
     let v = first_end(job, start, k) as u16;

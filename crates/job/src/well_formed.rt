@@ -1,8 +1,8 @@
-// The job check: passed, or refusal 1 to 10, in document 01's order.
+// The job check: passed, or a refusal (1 to 10, 27), in document 01's order, with 27 in document 02's place.
 ghost use mathlib.Core.Path.{_≡_};
-ghost use Prim.Native.Nat.{_+_, _*_, _≤_, _<_};
+ghost use Prim.Native.Nat.{_≤_, _<_};
 ghost use lib.ListN.{length};
-ghost use Rattle.job.specs.Job.{netsAt, nIn, firstIn, secondIn};
+ghost use Rattle.job.specs.Job.{netsAt, nIn, firstAt, firstIn, secondIn};
 ghost use Rattle.job.specs.Check.{outside, rangesVerdict, headVerdict, lengthVerdict, netVerdict, netsVerdict, checkedBy, checkedOf};
 use crate::C_AT;
 use crate::Checked;
@@ -11,14 +11,17 @@ use crate::HEAD_LONG;
 use crate::Head;
 use crate::M_AT;
 use crate::N_AT;
+use crate::read::first_at;
 use crate::read::first_end;
 use crate::read::head_in;
 use crate::read::nets_at;
+use crate::read::second_at;
 use crate::read::second_end;
 use words::Net;
 use words::Place;
 use words::Verdict;
 use words::number::read;
+use words::number::wide;
 use words::refuse;
 
 fn outside(smallest: usize, largest: usize, x: usize) -> bool
@@ -49,18 +52,21 @@ pub fn check_ranges(f: usize, c: usize, m: usize, n: usize) -> Verdict
     Verdict::Done
 }
 
-// Refusals 9 and 10, for net i between FPGAs v and w.
-pub fn check_net(f: usize, i: u16, v: usize, w: usize) -> Verdict
-    ensures { λ r. ⌜ r ≡ netVerdict f i v w ⌝ }
+// Refusals 9, 27 and 10, for net i between FPGAs v and w, where the nets start at byte `start`.
+pub fn check_net(f: usize, start: usize, i: u16, v: usize, w: usize) -> Verdict
+    requires { ⌜ start < 65536 ⌝ }
+    ensures { λ r. ⌜ r ≡ netVerdict f start i v w ⌝ }
 {
+    let first = first_at(start, wide(i));
+    let second = second_at(start, wide(i));
     if f <= v {
-        return refuse(9, Place::Net(Net(i)));
+        return refuse(9, Place::End(Net(i), first));
     }
     if f <= w {
-        return refuse(9, Place::Net(Net(i)));
+        return refuse(27, Place::End(Net(i), second));
     }
     if v == w {
-        return refuse(10, Place::Net(Net(i)));
+        return refuse(10, Place::End(Net(i), second));
     }
     Verdict::Done
 }
@@ -84,7 +90,7 @@ fn check_length(job: &[u8], n: usize) -> Verdict
     requires { ⌜ (n ≡ nIn (now job)) × (n ≤ 4096) ⌝ }
     ensures { λ r. ⌜ r ≡ lengthVerdict (now (job .entry)) ⌝ }
 {
-    let end = nets_at(job) + 4 * n;
+    let end = first_at(nets_at(job), n);
     if job.len() < end {
         return refuse(1, Place::Length(job.len()));
     }
@@ -94,17 +100,18 @@ fn check_length(job: &[u8], n: usize) -> Verdict
     Verdict::Done
 }
 
-// The nets in order: 9 and 10.
+// The nets in order: 9, 27 and 10.
 fn check_nets(job: &[u8], head: Head) -> Verdict
-    requires { ⌜ (head .start ≡ netsAt (now job)) × (length (now job) ≡ head .start + 4 * head .n) × (head .n ≤ 4096) ⌝ }
-    ensures { λ r. ⌜ r ≡ netsVerdict (head .f) (firstIn (now (job .entry))) (secondIn (now (job .entry))) (head .n) ⌝ }
+    requires { ⌜ (head .start ≡ netsAt (now job)) × (length (now job) ≡ firstAt (head .start) (head .n)) × (head .n ≤ 4096) ⌝ }
+    requires { ⌜ head .start < 65536 ⌝ }
+    ensures { λ r. ⌜ r ≡ netsVerdict (head .f) (head .start) (firstIn (now (job .entry))) (secondIn (now (job .entry))) (head .n) ⌝ }
 {
     let n = head.n;
     let mut i: usize = 0;
     while i < n {
         let v = first_end(job, head.start, i);
         let w = second_end(job, head.start, i);
-        let verdict = check_net(head.f, i as u16, v, w);
+        let verdict = check_net(head.f, head.start, i as u16, v, w);
         i += 1;
         if let Verdict::Refused(_) = verdict {
             return verdict;

@@ -17,9 +17,10 @@ use Rattle.job.proofs.Stages.{by-ranges, head-long, three, its-ranges, right-le
 use Rattle.job.proofs.Passing.{passes}
 use Rattle.job_writer.proofs.Writing.{by-ends, wrote-ranges, wrote-enough, wrote-nets}
 
-nets-same : (f : ℕ) (a b p q : ℕ → ℕ) (n : ℕ) → ((i : ℕ) → i < n → a i ≡ p i) → ((i : ℕ) → i < n → b i ≡ q i) → netsVerdict f a b n ≡ netsVerdict f p q n
+nets-same : (f start : ℕ) (a b p q : ℕ → ℕ) (n : ℕ) → ((i : ℕ) → i < n → a i ≡ p i) → ((i : ℕ) → i < n → b i ≡ q i)
+    → netsVerdict f start a b n ≡ netsVerdict f start p q n
 unfolding netsVerdict
-nets-same f a b p q n e g = first-same _ _ n (λ i l. rw (e i l, g i l))
+nets-same f start a b p q n e g = first-same _ _ n (λ i l. rw (e i l, g i l))
 
 -- what the writer writes reads back: the four numbers, the nets, and done
 module _ (f c m n : ℕ) (ends : List ℕ) (enough : 2 * n ≤ length ends) where
@@ -79,9 +80,10 @@ module _ (f c m n : ℕ) (ends : List ℕ) (enough : 2 * n ≤ length ends) wher
   written-end = right-length _ (omega (arith, written-long, written-n))
 
   written-passes : (room : ℕ) → writeVerdict f c m n ends room ≡ Done → jobVerdict (jobOf f c m n ends) ≡ Done
+  unfolding netsAt
   written-passes room done =
       by-nets _ (written-head (wrote-ranges f c m n ends room done)) written-end
-      ∙ rw (written-f, written-n) (nets-same f _ _ _ _ n written-first written-second ∙ wrote-nets f c m n ends room done)
+      ∙ rw (written-f, written-n) (nets-same f headLong _ _ _ _ n written-first written-second ∙ wrote-nets f c m n ends room done)
 
 -- Files read back as written.
 pub reads-back : (f c m n : ℕ) (ends : List ℕ) (room : ℕ) → writeVerdict f c m n ends room ≡ Done → Means (jobOf f c m n ends) f c m n (take (2 * n) ends)
@@ -135,7 +137,7 @@ module _ (job : List ℕ) (done : jobVerdict job ≡ Done) where
   unfolding netsAt
   writer-accepts room h =
       by-ends _ _ _ _ _ room (its-ranges job (its-head job done)) (omega (arith, nets-length)) (omega (arith, long))
-      ∙ nets-same (fIn job) _ _ _ _ (nIn job) (λ i l. net-number (2 * i) _ (omega arith) (omega arith)) (λ i l. net-number (2 * i + 1) _ (omega arith) (omega arith))
+      ∙ nets-same (fIn job) headLong _ _ _ _ (nIn job) (λ i l. net-number (2 * i) _ (omega arith) (omega arith)) (λ i l. net-number (2 * i + 1) _ (omega arith) (omega arith))
       ∙ its-nets job done
 
 -- A written file is the only one with its meaning.

@@ -31,7 +31,7 @@ module _ (f c m n : ℕ) (ends : List ℕ) (room : ℕ) where
       unfolding writeVerdict refuseIf _then_
       too-small h = simp (ranges, le-ltb _ _ enough, lt-ltb _ _ h)
 
-      pub by-ends : writtenLength n ≤ room → writeVerdict f c m n ends room ≡ netsVerdict f (firstOf ends) (secondOf ends) n
+      pub by-ends : writtenLength n ≤ room → writeVerdict f c m n ends room ≡ netsVerdict f headLong (firstOf ends) (secondOf ends) n
       unfolding writeVerdict refuseIf _then_
       by-ends h = simp (ranges, le-ltb _ _ enough, le-ltb _ _ h)
 
@@ -49,7 +49,7 @@ module _ (f c m n : ℕ) (ends : List ℕ) (room : ℕ) where
     unfolding writeVerdict
     wrote-room = long-enough _ _ .0 (then-first _ _ (then-second _ _ (then-second _ _ done)))
 
-    pub wrote-nets : netsVerdict f (firstOf ends) (secondOf ends) n ≡ Done
+    pub wrote-nets : netsVerdict f headLong (firstOf ends) (secondOf ends) n ≡ Done
     unfolding writeVerdict
     wrote-nets = then-second _ _ (then-second _ _ (then-second _ _ done))
 

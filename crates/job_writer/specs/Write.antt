@@ -7,7 +7,7 @@ use Rattle.words.specs.declared.Verdict.{Verdict}
 use Rattle.words.specs.declared.Verdict.the-variants.{Done}
 use Rattle.words.specs.Verdict.{tooShort, _then_}
 use Rattle.words.specs.Number.{bytes}
-use Rattle.job.specs.Job.{headLong, fIn, cIn, mIn, nIn, netsIn}
+use Rattle.job.specs.Job.{headLong, firstAt, fIn, cIn, mIn, nIn, netsIn}
 use Rattle.job.specs.Check.{rangesVerdict, netsVerdict, jobVerdict}
 
 -- the two FPGAs of net i in such a list
@@ -19,15 +19,15 @@ secondOf ends i = getD ends (2 * i + 1) 0
 
 -- the length of the job that is written
 abbrev pub writtenLength : ℕ → ℕ
-writtenLength n = headLong + 4 * n
+writtenLength n = firstAt headLong n
 
--- refusals 3 to 7; 11 for too few numbers or too little room; then 9 and 10 by net
+-- refusals 3 to 7; 11 for too few numbers or too little room; then 9, 27 and 10 by net, at their places in the job that it would write
 unfoldable pub writeVerdict : ℕ → ℕ → ℕ → ℕ → List ℕ → ℕ → Verdict
 writeVerdict f c m n ends roomLength =
     rangesVerdict f c m n then
     tooShort (length ends) (2 * n) then
     tooShort roomLength (writtenLength n) then
-    netsVerdict f (firstOf ends) (secondOf ends) n
+    netsVerdict f headLong (firstOf ends) (secondOf ends) n
 
 -- the job that is written
 unfoldable pub jobOf : ℕ → ℕ → ℕ → ℕ → List ℕ → List ℕ

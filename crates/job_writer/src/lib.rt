@@ -4,8 +4,10 @@ ghost use Prim.Native.Nat.{_*_, _≤_, _<_};
 ghost use lib.ListN.{length};
 ghost use Rattle.words.specs.Verdict.{writtenBy};
 ghost use Rattle.words.specs.Lent.{onto, roomAfter};
+ghost use Rattle.job.specs.Job.{headLong};
 ghost use Rattle.job.specs.Check.{netsVerdict};
 ghost use Rattle.job_writer.specs.Write.{firstOf, secondOf, writtenLength, writeVerdict, jobOf};
+use job::read::first_at;
 use job::well_formed::check_net;
 use job::well_formed::check_ranges;
 use words::Crossbar;
@@ -23,16 +25,19 @@ use words::written_by;
 // The numbers of two bytes in front of the nets: a count of three, f, c, m, and n.
 const HEAD: usize = 5;
 
-// Refusals 9 and 10 for the nets of a list, in order.
+// The byte where the nets start.
+const START: usize = 2 * HEAD;
+
+// Refusals 9, 27 and 10 for the nets of a list, in order, with the bytes that their numbers would have.
 fn check_ends(ends: &[u16], f: usize, n: usize) -> Verdict
     requires { ⌜ (2 * n ≤ length (now ends)) × (n ≤ 4096) ⌝ }
-    ensures { λ r. ⌜ r ≡ netsVerdict f (firstOf (now (ends .entry))) (secondOf (now (ends .entry))) n ⌝ }
+    ensures { λ r. ⌜ r ≡ netsVerdict f headLong (firstOf (now (ends .entry))) (secondOf (now (ends .entry))) n ⌝ }
 {
     let mut i: usize = 0;
     while i < n {
         let v = wide(ends[2 * i]);
         let w = wide(ends[2 * i + 1]);
-        let found = check_net(f, i as u16, v, w);
+        let found = check_net(f, START, i as u16, v, w);
         i += 1;
         if let Verdict::Refused(_) = found {
             return found;
@@ -45,7 +50,7 @@ fn written_length(n: usize) -> usize
     requires { ⌜ n < 65536 ⌝ }
     ensures { λ r. ⌜ r ≡ writtenLength n ⌝ }
 {
-    2 * (HEAD + 2 * n)
+    first_at(START, n)
 }
 
 // All that the writer checks before it writes; the room by its length.
@@ -74,7 +79,7 @@ fn put_job(f: u16, c: u16, m: u16, n: u16, ends: &[u16], room: &mut [u8])
     let head: [u16; HEAD] = [3, f, c, m, n];
     write_list(room, &head);
     let count = 2 * wide(n);
-    write_behind(room, 2 * HEAD, &ends[..count]);
+    write_behind(room, START, &ends[..count]);
 }
 
 // The job to the front of the room, unless it is refused.

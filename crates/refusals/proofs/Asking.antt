@@ -28,34 +28,34 @@ module _ (job : List ℕ) (done : fittingVerdict job ≡ Done) where
 
 -- ---- the FPGAs asked about
 
-module _ (f v : ℕ) where
-  pub asked-unknown : f ≤ v → askedVerdict f v ≡ refuse 9 (atFpga v)
+module _ (number f v : ℕ) where
+  pub asked-unknown : f ≤ v → askedVerdict number f v ≡ refuse number (atFpga v)
   unfolding askedVerdict refuseIf
   asked-unknown h = simp (le-leb _ _ h)
 
-  pub asked-known : v < f → askedVerdict f v ≡ Done
+  pub asked-known : v < f → askedVerdict number f v ≡ Done
   unfolding askedVerdict refuseIf
   asked-known h = simp (lt-leb _ _ h)
 
-  pub known : askedVerdict f v ≡ Done → v < f
+  pub known : askedVerdict number f v ≡ Done → v < f
   unfolding askedVerdict
-  known h = leb-false _ _ (passed _ 9 _ h)
+  known h = leb-false _ _ (passed _ number _ h)
 
 module _ (f v w : ℕ) where
-  pub both-first : (r : Refusal) → askedVerdict f v ≡ Refused r → bothVerdict f v w ≡ Refused r
+  pub both-first : (r : Refusal) → askedVerdict 9 f v ≡ Refused r → bothVerdict f v w ≡ Refused r
   unfolding bothVerdict _then_
   both-first r h = rw h
 
   pub both-known : bothVerdict f v w ≡ Done → (v < f) × (w < f)
   unfolding bothVerdict
-  both-known h = (known f v (then-first _ _ h), known f w (then-first _ _ (then-second _ _ h)))
+  both-known h = (known 9 f v (then-first _ _ h), known 27 f w (then-first _ _ (then-second _ _ h)))
 
-  module _ (first : askedVerdict f v ≡ Done) where
-    pub both-second : (r : Refusal) → askedVerdict f w ≡ Refused r → bothVerdict f v w ≡ Refused r
+  module _ (first : askedVerdict 9 f v ≡ Done) where
+    pub both-second : (r : Refusal) → askedVerdict 27 f w ≡ Refused r → bothVerdict f v w ≡ Refused r
     unfolding bothVerdict _then_
     both-second r h = rw (first, h)
 
-    module _ (second : askedVerdict f w ≡ Done) where
+    module _ (second : askedVerdict 27 f w ≡ Done) where
       pub both-same : v ≡ w → bothVerdict f v w ≡ refuse 10 (atFpga v)
       unfolding bothVerdict refuseIf _then_
       both-same e = simp (first, second, eq-eqb _ _ e)

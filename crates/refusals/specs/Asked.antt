@@ -9,7 +9,7 @@ use Rattle.job.specs.Job.{fIn, headIn, jobIn}
 use Rattle.job.specs.Check.{jobVerdict, checkedBy}
 use Rattle.refusals.specs.Refusals.{degreeVerdict}
 
--- refusals 1 to 10 and 12, of a job by itself
+-- refusals 1 to 10, 27 and 12, of a job by itself
 unfoldable pub fittingVerdict : List ℕ → Verdict
 fittingVerdict job = jobVerdict job then degreeVerdict (jobIn job)
 
@@ -17,17 +17,17 @@ fittingVerdict job = jobVerdict job then degreeVerdict (jobIn job)
 abbrev pub fittingOf : List ℕ → Checked
 fittingOf job = checkedBy (fittingVerdict job) (headIn job)
 
--- an FPGA that is asked about and that the board does not have
-unfoldable pub askedVerdict : ℕ → ℕ → Verdict
-askedVerdict f v = refuseIf (leb f v) 9 (atFpga v)
+-- an FPGA that is asked about and that the board does not have: 9, or 27 for the second of two
+unfoldable pub askedVerdict : ℕ → ℕ → ℕ → Verdict
+askedVerdict number f v = refuseIf (leb f v) number (atFpga v)
 
--- two of them: the first before the second, then the same one twice
+-- two of them: the first, then the second, then the same one twice
 unfoldable pub bothVerdict : ℕ → ℕ → ℕ → Verdict
-bothVerdict f v w = askedVerdict f v then askedVerdict f w then refuseIf (eqb v w) 10 (atFpga v)
+bothVerdict f v w = askedVerdict 9 f v then askedVerdict 27 f w then refuseIf (eqb v w) 10 (atFpga v)
 
 -- after the job's refusals
 unfoldable pub spareVerdict : List ℕ → ℕ → Verdict
-spareVerdict job v = fittingVerdict job then askedVerdict (fIn job) v
+spareVerdict job v = fittingVerdict job then askedVerdict 9 (fIn job) v
 
 unfoldable pub headroomVerdict : List ℕ → ℕ → ℕ → Verdict
 headroomVerdict job v w = fittingVerdict job then bothVerdict (fIn job) v w

@@ -11,7 +11,7 @@ use words::Verdict;
 use words::number::wide;
 use words::refuse;
 
-// Refusals 1 to 10 and 12.
+// Refusals 1 to 10, 27 and 12.
 pub fn check_fitting(job: &[u8]) -> Checked
     ensures { λ r. ⌜ r ≡ fittingOf (now (job .entry)) ⌝ }
 {
@@ -22,25 +22,25 @@ pub fn check_fitting(job: &[u8]) -> Checked
     checked_by(check_degrees(job, head), head)
 }
 
-// Refusal 9 of an FPGA that is asked about.
-pub fn check_asked(f: usize, v: Fpga) -> Verdict
-    ensures { λ r. ⌜ r ≡ askedVerdict f (v .0) ⌝ }
+// The refusal of this number, if the board does not have the FPGA asked about.
+pub fn check_asked(number: u16, f: usize, v: Fpga) -> Verdict
+    ensures { λ r. ⌜ r ≡ askedVerdict number f (v .0) ⌝ }
 {
     if f <= wide(v.0) {
-        return refuse(9, Place::Fpga(v));
+        return refuse(number, Place::Fpga(v));
     }
     Verdict::Done
 }
 
-// Refusals 9 and 10 of two.
+// Refusals 9, 27 and 10 of two.
 pub fn check_both(f: usize, v: Fpga, w: Fpga) -> Verdict
     ensures { λ r. ⌜ r ≡ bothVerdict f (v .0) (w .0) ⌝ }
 {
-    let first = check_asked(f, v);
+    let first = check_asked(9, f, v);
     if let Verdict::Refused(_) = first {
         return first;
     }
-    let second = check_asked(f, w);
+    let second = check_asked(27, f, w);
     if let Verdict::Refused(_) = second {
         return second;
     }

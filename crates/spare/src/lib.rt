@@ -46,9 +46,9 @@ fn smaller(a: Net, b: Net) -> Net
 // Of a job that is not refused.
 fn spare_in(job: &[u8], head: Head, v: Fpga) -> Room
     requires { ⌜ (WellFormed (now job) head) × WithinLimits (jobIn (now job)) ⌝ }
-    ensures { λ r. ⌜ r ≡ roomBy (askedVerdict (head .f) (v .0)) (spareOf (jobIn (now (job .entry))) (v .0)) ⌝ }
+    ensures { λ r. ⌜ r ≡ roomBy (askedVerdict 9 (head .f) (v .0)) (spareOf (jobIn (now (job .entry))) (v .0)) ⌝ }
 {
-    let asked = check_asked(head.f, v);
+    let asked = check_asked(9, head.f, v);
     if let Verdict::Refused(r) = asked {
         return Room::Refused(r);
     }

@@ -3,7 +3,7 @@ use mathlib.Core.Bool.{Bool, true, false}
 use Prim.Native.Nat.{ℕ, zero, suc}
 use lib.Dec.{ltb}
 use Rattle.words.specs.declared.Place.{Place}
-use Rattle.words.specs.declared.Place.the-variants.{Byte, Net, Fpga, Crossbar, Load, Length, Nowhere}
+use Rattle.words.specs.declared.Place.the-variants.{Byte, Net, End, Fpga, Crossbar, Load, Length, Nowhere}
 use Rattle.words.specs.declared.Verdict.{Verdict}
 use Rattle.words.specs.declared.Verdict.the-variants.{Done, Refused}
 use Rattle.words.specs.declared.Written.{Written}
@@ -16,6 +16,10 @@ atByte i = Byte i
 
 abbrev pub atNet : ℕ → Place
 atNet i = Net (record { 0 = i })
+
+-- one of the net's two numbers, at this byte of the job
+abbrev pub atEnd : ℕ → ℕ → Place
+atEnd i at = End (record { 0 = i }) at
 
 abbrev pub atFpga : ℕ → Place
 atFpga v = Fpga (record { 0 = v })
@@ -36,6 +40,7 @@ nowhere = Nowhere
 abbrev pub placeP : Place → ℕ
 placeP (Byte i) = i
 placeP (Net i) = i .0
+placeP (End i at) = i .0
 placeP (Fpga v) = v .0
 placeP (Crossbar x) = x .0
 placeP (Load v x) = v .0
@@ -45,6 +50,7 @@ placeP Nowhere = 0
 abbrev pub placeQ : Place → ℕ
 placeQ (Byte i) = 0
 placeQ (Net i) = 0
+placeQ (End i at) = at
 placeQ (Fpga v) = 0
 placeQ (Crossbar x) = 0
 placeQ (Load v x) = x .0

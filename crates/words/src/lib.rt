@@ -17,6 +17,8 @@ pub struct Net(pub u16);
 pub enum Place {
     Byte(usize),
     Net(Net),
+    // One of the net's two numbers, by its byte in the job.
+    End(Net, usize),
     Fpga(Fpga),
     Crossbar(Crossbar),
     Load(Fpga, Crossbar),
@@ -67,6 +69,7 @@ pub fn p_of(v: Verdict) -> usize
             match place {
                 Place::Byte(i) => i,
                 Place::Net(i) => i.0 as usize,
+                Place::End(i, _) => i.0 as usize,
                 Place::Fpga(v) => v.0 as usize,
                 Place::Crossbar(x) => x.0 as usize,
                 Place::Load(v, _) => v.0 as usize,
@@ -86,6 +89,7 @@ pub fn q_of(v: Verdict) -> usize
         Verdict::Refused(r) => {
             let place = r.place;
             match place {
+                Place::End(_, at) => at,
                 Place::Load(_, x) => x.0 as usize,
                 Place::Byte(_) => 0,
                 Place::Net(_) => 0,

@@ -1,6 +1,7 @@
 -- `job_writer::check_ends` meets its contract.
 use Rattle.job.proofs.Nets.{nets-none, nets-pass, nets-stop}
 use Rattle.job_writer.specs.Write.{firstOf, secondOf}
+use Rattle.job.specs.Job.{headLong}
 use Rattle.job.specs.Check.{netsVerdict}
 use Rattle.words.specs.declared.Verdict.the-variants.{Done}
 use borrow.Author.Needs.{needs}
@@ -11,13 +12,13 @@ use Rattle.job_writer.proofs.check_ends.Statement.{statement}
 use Rattle.job_writer.proofs.check_ends.Tie as tie
 
 abbrev Inv-loop : tie.InvT-loop
-Inv-loop ends f n i₀ i = (i ≤ n) × (netsVerdict f (firstOf ends) (secondOf ends) i ≡ Done)
+Inv-loop ends f n i₀ i = (i ≤ n) × (netsVerdict f headLong (firstOf ends) (secondOf ends) i ≡ Done)
 
 abbrev μ-loop : tie.MeasureT-loop
 μ-loop ends f n i₀ i = n - i
 
 loop-holds : tie.Need-loop-holds Inv-loop μ-loop
-loop-holds c = (omega arith, nets-none _ _ _)
+loop-holds c = (omega arith, nets-none _ _ _ _)
 
 mul-wide : tie.Need-mul-wide Inv-loop μ-loop
 mul-wide c = search needs
@@ -61,7 +62,7 @@ enum-told c = search needs
 returns : tie.Need-returns Inv-loop μ-loop
 returns c = let l = c .before .before .before .before .before .before .before .before .loop in
     let told = c .enum-told .given .1 in
-    told ∙ sym (nets-stop _ _ _ (l .i) _ _ (c .before .before .before .before .before .wide .ensures .0) (c .before .before .before .wide2 .ensures .0) (l .inv .1) _ _ (omega arith) (sym (c .before .before .check-net .ensures) ∙ told))
+    told ∙ sym (nets-stop _ _ _ _ (l .i) _ _ (c .before .before .before .before .before .wide .ensures .0) (c .before .before .before .wide2 .ensures .0) (l .inv .1) _ _ (omega arith) (sym (c .before .before .check-net .ensures) ∙ told))
 
 enum-told-2 : tie.Need-enum-told-2 Inv-loop μ-loop
 enum-told-2 c = search needs
@@ -71,7 +72,7 @@ loop-less c = search needs
 
 loop-again : tie.Need-loop-again Inv-loop μ-loop
 loop-again c = let l = c .before .before .before .before .before .before .before .before .loop in
-    (omega arith, nets-pass _ _ _ (l .i) _ _ (c .before .before .before .before .before .wide .ensures .0) (c .before .before .before .wide2 .ensures .0) (l .inv .1) (sym (c .before .before .check-net .ensures) ∙ c .enum-told2 .given .1))
+    (omega arith, nets-pass _ _ _ _ (l .i) _ _ (c .before .before .before .before .before .wide .ensures .0) (c .before .before .before .wide2 .ensures .0) (l .inv .1) (sym (c .before .before .check-net .ensures) ∙ c .enum-told2 .given .1))
 
 returns-2 : tie.Need-returns-2 Inv-loop μ-loop
 returns-2 c = let l = c .before .loop in

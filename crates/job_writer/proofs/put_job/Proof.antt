@@ -21,9 +21,6 @@ wide-requires c κs = search needs
 mul-count : tie.Need-mul-count
 mul-count c = search needs
 
-mul-write-behind : tie.Need-mul-write-behind
-mul-write-behind c = search needs
-
 slice-aggregate-write-behind : tie.Need-slice-aggregate-write-behind
 slice-aggregate-write-behind c = sym (length-take-le _ _ (omega arith))
 
@@ -47,7 +44,6 @@ put-job-spec =
     write-list-requires
     wide-requires
     mul-count
-    mul-write-behind
     slice-aggregate-write-behind
     write-behind-requires
     same-length

@@ -25,7 +25,7 @@ wide-requires c κs = search needs
 
 left-of-requires : tie.Need-left-of-requires
 left-of-requires c κs = let p = c .before .before .before .before .before .before .pre in
-    (p, (rw (c .wide .ensures .0) (known _ _ (sym (c .before .before .before .before .check-asked .ensures) ∙ c .before .before .enum-told .given .1)), c .before .degrees .ensures))
+    (p, (rw (c .wide .ensures .0) (known _ _ _ (sym (c .before .before .before .before .check-asked .ensures) ∙ c .before .before .enum-told .given .1)), c .before .degrees .ensures))
 
 returns-2 : tie.Need-returns-2
 returns-2 c = rw (sym (c .before .before .before .before .before .check-asked .ensures) ∙ c .before .before .before .enum-told .given .1, c .left-of .ensures, c .before .wide .ensures .0)

@@ -1,9 +1,9 @@
 -- `job::read::net_at` meets its contract.
-use borrow.Author.Needs.{needs}
 use Rattle.job.proofs.Reading.{none-above, none-beyond, its-ends}
 use Rattle.job.specs.Job.{firstIn, secondIn}
 use native.Mathlib.Omega.{arith}
 use mathlib.Core.Path.{_≡_, sym, ap, _∙_}
+use borrow.Author.Needs.{needs}
 use Rattle.job.proofs.read.net_at.Statement.{statement}
 use Rattle.job.proofs.read.net_at.Tie as tie
 
@@ -16,14 +16,11 @@ nets-at-requires c κs = search needs
 wide-requires : tie.Need-wide-requires
 wide-requires c κs = search needs
 
-add-if2 : tie.Need-add-if2
-add-if2 c = search needs
+add-first-at : tie.Need-add-first-at
+add-first-at c = search needs
 
-mul-if2 : tie.Need-mul-if2
-mul-if2 c = search needs
-
-add-if2-2 : tie.Need-add-if2-2
-add-if2-2 c = search needs
+first-at-requires : tie.Need-first-at-requires
+first-at-requires c κs = search needs
 
 returns-2 : tie.Need-returns-2
 returns-2 c = sym (none-beyond _ _ _ (omega arith) (omega arith))
@@ -41,8 +38,8 @@ cast-w : tie.Need-cast-w
 cast-w c = search needs
 
 returns-3 : tie.Need-returns-3
-returns-3 c = let a = c .before .before .before .before .before .before .before .before .before .args in
-    let k : c .before .before .before .wide .result ≡ a .i .0 = omega arith in
+returns-3 c = let a = c .before .before .before .before .before .before .before .before .before .before .args in
+    let k : c .before .before .before .before .wide .result ≡ a .i .0 = omega arith in
     sym (its-ends _ _ _ (omega arith) (omega arith) _ _ (c .before .first-end .ensures .0 ∙ ap (firstIn (a .job .now)) k) (c .second-end .ensures .0 ∙ ap (secondIn (a .job .now)) k))
 
 pub net-at-spec : {M : Type 1} → statement M
@@ -52,9 +49,8 @@ net-at-spec =
     returns
     nets-at-requires
     wide-requires
-    add-if2
-    mul-if2
-    add-if2-2
+    add-first-at
+    first-at-requires
     returns-2
     first-end-requires
     cast-v

@@ -2,6 +2,7 @@
 use borrow.Author.Needs.{needs}
 use Rattle.job.proofs.Stages.{refused-head, refused-length, head-long, its-length}
 use Rattle.job.proofs.Passing.{head-few, nets-decide}
+use Rattle.job.proofs.Reading.{nets-at-small}
 use Rattle.job.specs.declared.Head.{Head}
 use mathlib.Core.Path.{sym, ap, _∙_}
 use Rattle.job.proofs.well_formed.check_job.Statement.{statement}
@@ -37,7 +38,7 @@ enum-told-2 c = search needs
 
 check-nets-requires : tie.Need-check-nets-requires
 check-nets-requires c κs = let e = c .before .before .before .head-in .ensures in
-    (ap (λ (h : Head). h .start) e, rw e (its-length _ (sym (c .before .before .check-length .ensures) ∙ c .enum-told2 .given .1)), head-few _ _ e (sym (c .before .before .before .before .before .before .check-head .ensures) ∙ c .before .before .before .before .enum-told .given .1))
+    ((ap (λ (h : Head). h .start) e, rw e (its-length _ (sym (c .before .before .check-length .ensures) ∙ c .enum-told2 .given .1)), head-few _ _ e (sym (c .before .before .before .before .before .before .check-head .ensures) ∙ c .before .before .before .before .enum-told .given .1)), rw e (nets-at-small _))
 
 checked-by-requires : tie.Need-checked-by-requires
 checked-by-requires c κs = search needs

@@ -1,21 +1,18 @@
 -- `job::well_formed::check_length` meets its contract.
-use borrow.Author.Needs.{needs}
 use Rattle.job.proofs.Stages.{cut-off, too-long, right-length}
 use native.Mathlib.Omega.{arith}
 use mathlib.Core.Path.{sym, ap, _∙_}
 use Rattle.words.specs.Verdict.{refuse, atByte}
 use Prim.Native.Nat.{ℕ}
+use borrow.Author.Needs.{needs}
 use Rattle.job.proofs.well_formed.check_length.Statement.{statement}
 use Rattle.job.proofs.well_formed.check_length.Tie as tie
 
 nets-at-requires : tie.Need-nets-at-requires
 nets-at-requires c κs = search needs
 
-mul-end : tie.Need-mul-end
-mul-end c = search needs
-
-add-end : tie.Need-add-end
-add-end c = search needs
+first-at-requires : tie.Need-first-at-requires
+first-at-requires c κs = search needs
 
 refuse-requires : tie.Need-refuse-requires
 refuse-requires c κs = search needs
@@ -37,8 +34,7 @@ check-length-spec =
     tie.close
     (tie.spec
     nets-at-requires
-    mul-end
-    add-end
+    first-at-requires
     refuse-requires
     returns
     refuse-requires-2

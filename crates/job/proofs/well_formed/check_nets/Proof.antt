@@ -11,13 +11,13 @@ use Rattle.job.proofs.well_formed.check_nets.Statement.{statement}
 use Rattle.job.proofs.well_formed.check_nets.Tie as tie
 
 abbrev Inv-loop : tie.InvT-loop
-Inv-loop job head n i₀ i = (i ≤ n) × (netsVerdict (head .f) (firstIn job) (secondIn job) i ≡ Done)
+Inv-loop job head n i₀ i = (i ≤ n) × (netsVerdict (head .f) (head .start) (firstIn job) (secondIn job) i ≡ Done)
 
 abbrev μ-loop : tie.MeasureT-loop
 μ-loop job head n i₀ i = n - i
 
 loop-holds : tie.Need-loop-holds Inv-loop μ-loop
-loop-holds c = (omega arith, nets-none _ _ _)
+loop-holds c = (omega arith, nets-none _ _ _ _)
 
 first-end-requires : tie.Need-first-end-requires Inv-loop μ-loop
 first-end-requires c κs = search needs
@@ -40,7 +40,7 @@ enum-told c = search needs
 returns : tie.Need-returns Inv-loop μ-loop
 returns c = let l = c .before .before .before .before .before .before .loop in
     let told = c .enum-told .given .1 in
-    told ∙ sym (nets-stop _ _ _ (l .i) _ _ (c .before .before .before .before .first-end .ensures .0) (c .before .before .before .second-end .ensures .0) (l .inv .1) _ _ (omega arith) (sym (c .before .before .check-net .ensures) ∙ told))
+    told ∙ sym (nets-stop _ _ _ _ (l .i) _ _ (c .before .before .before .before .first-end .ensures .0) (c .before .before .before .second-end .ensures .0) (l .inv .1) _ _ (omega arith) (sym (c .before .before .check-net .ensures) ∙ told))
 
 enum-told-2 : tie.Need-enum-told-2 Inv-loop μ-loop
 enum-told-2 c = search needs
@@ -50,7 +50,7 @@ loop-less c = search needs
 
 loop-again : tie.Need-loop-again Inv-loop μ-loop
 loop-again c = let l = c .before .before .before .before .before .before .loop in
-    (omega arith, nets-pass _ _ _ (l .i) _ _ (c .before .before .before .before .first-end .ensures .0) (c .before .before .before .second-end .ensures .0) (l .inv .1) (sym (c .before .before .check-net .ensures) ∙ c .enum-told2 .given .1))
+    (omega arith, nets-pass _ _ _ _ (l .i) _ _ (c .before .before .before .before .first-end .ensures .0) (c .before .before .before .second-end .ensures .0) (l .inv .1) (sym (c .before .before .check-net .ensures) ∙ c .enum-told2 .given .1))
 
 returns-2 : tie.Need-returns-2 Inv-loop μ-loop
 returns-2 c = let l = c .before .loop in

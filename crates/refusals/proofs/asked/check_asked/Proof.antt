@@ -13,10 +13,10 @@ refuse-requires : tie.Need-refuse-requires
 refuse-requires c κs = search needs
 
 returns : tie.Need-returns
-returns c = c .refuse .ensures ∙ sym (asked-unknown _ _ (omega arith))
+returns c = c .refuse .ensures ∙ sym (asked-unknown _ _ _ (omega arith))
 
 returns-2 : tie.Need-returns-2
-returns-2 c = sym (asked-known _ _ (omega arith))
+returns-2 c = sym (asked-known _ _ _ (omega arith))
 
 pub check-asked-spec : {M : Type 1} → statement M
 check-asked-spec = tie.close (tie.spec wide-requires refuse-requires returns returns-2)
