@@ -10,11 +10,13 @@ use borrow.Author.Tests.{eqb-true, not-false}
 use Rattle.words.specs.declared.Refusal.{Refusal}
 use Rattle.words.specs.declared.Verdict.{Verdict}
 use Rattle.words.specs.declared.Verdict.the-variants.{Done, Refused}
+use Rattle.words.specs.Verdict.{atByte, ofLength}
 use Rattle.words.proofs.Order.{passed}
 use Rattle.words.proofs.Always.{Always, always-if, always-then, always-first}
 use Rattle.job.specs.Job.{netsAt, fIn, cIn, nIn, jobLength, firstIn, secondIn}
-use Rattle.job.specs.Check.{shortVerdict, countVerdict, rangesVerdict, headVerdict, lengthVerdict, netVerdict, netsVerdict, jobVerdict}
+use Rattle.job.specs.Check.{netVerdict, netsVerdict, jobVerdict}
 use Rattle.job.proofs.Stages.{its-length}
+use Rattle.job.proofs.Places.{head-always, length-always}
 use Rattle.refusals.specs.Refusals.{rangeVerdict}
 use Rattle.sheet.specs.Sheet.{sheetLength}
 use Rattle.fit.specs.Fit.{loadsVerdict, spreadVerdict, fitVerdict}
@@ -32,19 +34,14 @@ Points job sheet fault v = Always (λ r. Inside job sheet (fault r)) v
 module _ (job sheet : List ℕ) where
   -- ---- the job's refusals
 
-  head-inside : Points job sheet (jobFault job) (headVerdict job)
-  unfolding headVerdict shortVerdict countVerdict rangesVerdict jobFault
-  head-inside =
-      always-then _ _ (always-if _ 1 _ (λ _. omega arith)) (λ _.
-      always-then _ _ (always-if _ 2 _ (λ _. omega arith)) (λ _.
-      always-then _ _ (always-if _ 3 _ (λ _. omega arith)) (λ _.
-      always-then _ _ (always-if _ 4 _ (λ _. omega arith)) (λ _.
-      always-then _ _ (always-if _ 5 _ (λ _. omega arith)) (λ _.
-      always-then _ _ (always-if _ 6 _ (λ _. omega arith)) (λ _. always-if _ 7 _ (λ _. omega arith)))))))
+  -- a byte or a length points at nothing
+  byte-inside : (k at : ℕ) → Inside job sheet (jobFault job (record { number = k; place = atByte at }))
+  unfolding jobFault
+  byte-inside k at = omega arith
 
-  length-inside : Points job sheet (jobFault job) (lengthVerdict job)
-  unfolding lengthVerdict jobFault
-  length-inside = always-then _ _ (always-if _ 1 _ (λ _. omega arith)) (λ _. always-if _ 8 _ (λ _. omega arith))
+  length-inside : (k n : ℕ) → Inside job sheet (jobFault job (record { number = k; place = ofLength n }))
+  unfolding jobFault
+  length-inside k n = omega arith
 
   nets-inside : length job ≡ jobLength job → Points job sheet (jobFault job) (netsVerdict (fIn job) (netsAt job) (firstIn job) (secondIn job) (nIn job))
   unfolding netsVerdict netVerdict jobFault
@@ -55,7 +52,9 @@ module _ (job sheet : List ℕ) where
 
   job-inside : Points job sheet (jobFault job) (jobVerdict job)
   unfolding jobVerdict
-  job-inside = always-then _ _ head-inside (λ _. always-then _ _ length-inside (λ long. nets-inside (its-length job long)))
+  job-inside =
+      always-then _ _ (head-always job _ byte-inside length-inside) (λ _.
+      always-then _ _ (length-always job _ byte-inside length-inside) (λ long. nets-inside (its-length job long)))
 
   -- ---- the sheet's
 

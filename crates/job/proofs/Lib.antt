@@ -4,5 +4,6 @@ pub mod Stages
 pub mod Passing
 pub mod Width
 pub mod Sound
+pub mod Places
 pub mod WrongEnd
 pub mod Reading

@@ -13,7 +13,8 @@ use Rattle.words.specs.Number.{word}
 use Rattle.words.proofs.Order.{passed}
 use Rattle.words.proofs.Always.{Always, always-if, always-then, always-first}
 use Rattle.job.specs.Job.{netsAt, firstAt, secondAt, fIn, nIn, firstIn, secondIn}
-use Rattle.job.specs.Check.{shortVerdict, countVerdict, rangesVerdict, headVerdict, lengthVerdict, netVerdict, netsVerdict, jobVerdict}
+use Rattle.job.specs.Check.{netVerdict, netsVerdict, jobVerdict}
+use Rattle.job.proofs.Places.{head-always, length-always}
 
 -- byte q holds a number of net p, by the refusal's number the first or the second, and that number is wrong
 abbrev PointsAt : List ℕ → ℕ → ℕ → ℕ → Type 0
@@ -37,20 +38,6 @@ abbrev Right : List ℕ → Refusal → Type 0
 Right job r = IfEnd (PointsAt job (r .number)) (r .place)
 
 module _ (job : List ℕ) where
-  head-right : Always (Right job) (headVerdict job)
-  unfolding headVerdict shortVerdict countVerdict rangesVerdict
-  head-right =
-      always-then _ _ (always-if _ 1 _ (λ _. tt)) (λ _.
-      always-then _ _ (always-if _ 2 _ (λ _. tt)) (λ _.
-      always-then _ _ (always-if _ 3 _ (λ _. tt)) (λ _.
-      always-then _ _ (always-if _ 4 _ (λ _. tt)) (λ _.
-      always-then _ _ (always-if _ 5 _ (λ _. tt)) (λ _.
-      always-then _ _ (always-if _ 6 _ (λ _. tt)) (λ _. always-if _ 7 _ (λ _. tt)))))))
-
-  length-right : Always (Right job) (lengthVerdict job)
-  unfolding lengthVerdict
-  length-right = always-then _ _ (always-if _ 1 _ (λ _. tt)) (λ _. always-if _ 8 _ (λ _. tt))
-
   net-right : (i : ℕ) → i < nIn job → Always (Right job) (netVerdict (fIn job) (netsAt job) i (firstIn job i) (secondIn job i))
   unfolding netVerdict
   net-right i l =
@@ -61,7 +48,9 @@ module _ (job : List ℕ) where
 
   job-right : Always (Right job) (jobVerdict job)
   unfolding jobVerdict netsVerdict
-  job-right = always-then _ _ head-right (λ _. always-then _ _ length-right (λ _. always-first _ (nIn job) net-right))
+  job-right =
+      always-then _ _ (head-always job (Right job) (λ _ _. tt) (λ _ _. tt)) (λ _.
+      always-then _ _ (length-always job (Right job) (λ _ _. tt) (λ _ _. tt)) (λ _. always-first _ (nIn job) net-right))
 
   module _ (p q : ℕ) where
     -- 9: the first number of net p
