@@ -14,6 +14,11 @@
  *   job    3, f, c, m, n, then n pairs of FPGA numbers                  10 + 4n bytes
  *   sheet  3, f, c, m, n, then n crossbar numbers, c, then c totals     12 + 2n + 2c bytes
  *
+ * A job may be typed by hand too, as text: a line `board 3`; three lines with f, c and m; a line
+ * `nets` and n; then a line for each net with its two FPGA numbers. Numbers are decimal, up to
+ * 65,535, with no zero in front but for 0 itself; one space between, one newline after each line,
+ * the last too. A job has one text, and a text is of one job.
+ *
  * MEMORY. The caller owns all of it. The library allocates nothing, keeps no pointer after a call
  * returns and has no state: calls on different memory may run at the same time.
  *   - A lent list or file is a pointer and how many elements it has. The pointer is aligned and
@@ -53,6 +58,9 @@
  *   24  a load above w: p the lowest FPGA, q the lowest crossbar there
  *   25  totals more than 1 apart: lowest crossbar 2 or more below the greatest
  *   26  a written total is wrong: lowest such crossbar
+ *   31  a text breaks the form: p the line, from 1, and q the first byte in that line, from 0, with
+ *       which no text of the form could go on; or the line's end, if the text stops short
+ *   32  a text goes on after its last net: p the line with which it does, q 0
  */
 #ifndef HOGVULDUR_H
 #define HOGVULDUR_H
@@ -81,6 +89,13 @@ extern "C" {
 #define HOGVULDUR_MOST_JOB_BYTES HOGVULDUR_JOB_BYTES(HOGVULDUR_MOST_NETS)
 #define HOGVULDUR_MOST_SHEET_BYTES HOGVULDUR_SHEET_BYTES(HOGVULDUR_MOST_NETS, HOGVULDUR_MOST_CROSSBARS)
 
+/*
+ * The longest text of a job; and the longest text of the form, whose numbers go up to 65,535: of a
+ * longer text one byte more is enough to read, for it is refused there or before.
+ */
+#define HOGVULDUR_MOST_TEXT_BYTES ((size_t)32797)
+#define HOGVULDUR_MOST_FORM_BYTES ((size_t)786457)
+
 /* What a call returns when nothing is refused, and the refusals. */
 enum {
     HOGVULDUR_DONE = 0,
@@ -103,7 +118,9 @@ enum {
     HOGVULDUR_LOAD_ABOVE_WIDTH = 24,
     HOGVULDUR_NOT_BALANCED = 25,
     HOGVULDUR_SHEET_TOTAL_WRONG = 26,
-    HOGVULDUR_NO_SUCH_SECOND_FPGA = 27
+    HOGVULDUR_NO_SUCH_SECOND_FPGA = 27,
+    HOGVULDUR_TEXT_BREAKS = 31,
+    HOGVULDUR_TEXT_TOO_LONG = 32
 };
 
 /* What stands where in `answer`: answer[HOGVULDUR_P] and so on. */
@@ -111,7 +128,7 @@ enum { HOGVULDUR_P, HOGVULDUR_Q };                                     /* after 
 enum { HOGVULDUR_F, HOGVULDUR_C, HOGVULDUR_M, HOGVULDUR_N };           /* numbers */
 enum { HOGVULDUR_FIRST_FPGA, HOGVULDUR_SECOND_FPGA };                  /* net */
 enum { HOGVULDUR_SECTION_START, HOGVULDUR_SECTION_BYTES };             /* net_section */
-enum { HOGVULDUR_WRITTEN };                                            /* write_job, write_sheet, read_sheet */
+enum { HOGVULDUR_WRITTEN };                                            /* write_job, read_text, write_text, write_sheet, read_sheet */
 enum { HOGVULDUR_MOVED, HOGVULDUR_V, HOGVULDUR_A, HOGVULDUR_B };       /* one_round */
 enum { HOGVULDUR_ROUNDS, HOGVULDUR_EXCESS };                           /* finish, plan */
 enum { HOGVULDUR_IN_SHEET, HOGVULDUR_FAULT_START, HOGVULDUR_FAULT_BYTES }; /* evidence */
@@ -145,6 +162,21 @@ void hogvuldur_net_section(const uint8_t *job, size_t job_length, uint64_t answe
 uint16_t hogvuldur_write_job(uint16_t f, uint16_t c, uint16_t m, uint16_t n,
                              const uint16_t *ends, size_t ends_length,
                              uint8_t *room, size_t room_length, uint64_t answer[4]);
+
+/*
+ * Turns a text into a job, in the first 10 + 4n bytes of `room`. Refusals 31 and 32; then 3 to 7,
+ * 9, 27 and 10 on the numbers read, at their places in the job; then 11 for too little room.
+ * Answer: the bytes written.
+ */
+uint16_t hogvuldur_read_text(const uint8_t *text, size_t text_length,
+                             uint8_t *room, size_t room_length, uint64_t answer[4]);
+
+/*
+ * Writes the text of a job to the front of `room`. The job's refusals, then 11. Answer: the bytes
+ * written; HOGVULDUR_MOST_TEXT_BYTES are enough for every job.
+ */
+uint16_t hogvuldur_write_text(const uint8_t *job, size_t job_length,
+                              uint8_t *room, size_t room_length, uint64_t answer[4]);
 
 /*
  * One round on the assignment in the first n numbers of `plan`. The job's refusals, then 11 to 13.

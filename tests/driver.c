@@ -10,7 +10,7 @@
 
 #include "stream.h"
 
-enum { ARENA_SIZE = 1 << 20, ALIGNMENT = 8, GUARD_BYTE = 0xC9, ANSWER_BYTE = 0xB7, ANSWER_NUMBERS = 4 };
+enum { ARENA_SIZE = 1 << 22, ALIGNMENT = 8, GUARD_BYTE = 0xC9, ANSWER_BYTE = 0xB7, ANSWER_NUMBERS = 4 };
 
 /* Lent memory without its guards. */
 struct lent {
@@ -116,6 +116,15 @@ static uint16_t make_sheet_call(int name)
     return 0;
 }
 
+static uint16_t make_text_call(int name)
+{
+    const struct lent *job = &lent[LENT_JOB], *text = &lent[LENT_TEXT], *room = &lent[LENT_ROOM];
+    uint64_t *answer = answer_of();
+    if (name == CALL_READ_TEXT)
+        return hogvuldur_read_text(text->start, text->size, room->start, room->size, answer);
+    return hogvuldur_write_text(job->start, job->size, room->start, room->size, answer);
+}
+
 static uint16_t make_job_call(int name, const uint16_t number[4])
 {
     const struct lent *job = &lent[LENT_JOB], *room = &lent[LENT_ROOM];
@@ -139,6 +148,7 @@ static uint16_t make_call(int name, const uint16_t number[4])
     if (name == CALL_ONE_ROUND || name == CALL_FINISH || name == CALL_PLAN) return make_round_call(name);
     if (name == CALL_WRITE_SHEET || name == CALL_READ_SHEET || name == CALL_AUDIT || name == CALL_EVIDENCE)
         return make_sheet_call(name);
+    if (name == CALL_READ_TEXT || name == CALL_WRITE_TEXT) return make_text_call(name);
     return make_job_call(name, number);
 }
 

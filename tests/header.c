@@ -1,6 +1,6 @@
 /*
  * The header's names. Each refusal is provoked once and must be called by its name; each answer must stand where its name says.
- * Small boards only: what the calls answer is the second program's to hold.
+ * Small boards, but for the longest texts: what the calls answer is the second program's to hold.
  */
 #include <hogvuldur.h>
 #include <inttypes.h>
@@ -10,6 +10,7 @@
 enum { NETS = 4 };
 
 static uint8_t job[HOGVULDUR_MOST_JOB_BYTES + 1], sheet[HOGVULDUR_MOST_SHEET_BYTES];
+static char text[HOGVULDUR_MOST_FORM_BYTES + 2];
 static uint16_t plan[HOGVULDUR_MOST_NETS], scratch[HOGVULDUR_SCRATCH];
 static uint64_t answer[4];
 static size_t job_long, sheet_long;
@@ -101,6 +102,49 @@ static void jobs(void)
     STANDS(HOGVULDUR_SECTION_BYTES, 4 * NETS);
 }
 
+static uint16_t read_text(const char *lent, size_t length)
+{
+    return hogvuldur_read_text((const uint8_t *)lent, length, job, sizeof job, answer);
+}
+
+static void texts(void)
+{
+    static const char typed[] = "board 3\n2\n2\n2\nnets 1\n0 1\n";
+    size_t length = strlen(typed);
+    IS(read_text(typed, length), HOGVULDUR_DONE);
+    STANDS(HOGVULDUR_WRITTEN, HOGVULDUR_JOB_BYTES(1));
+    job_long = (size_t)answer[HOGVULDUR_WRITTEN];
+    IS(hogvuldur_write_text(job, job_long, (uint8_t *)text, length, answer), HOGVULDUR_DONE);
+    STANDS(HOGVULDUR_WRITTEN, length);
+    hold("text", 0, (uint64_t)(memcmp(text, typed, length) != 0));
+    IS(hogvuldur_write_text(job, job_long, (uint8_t *)text, length - 1, answer), HOGVULDUR_BUFFER_TOO_SHORT);
+    IS(read_text(typed, length - 1), HOGVULDUR_TEXT_BREAKS);
+    STANDS(HOGVULDUR_P, 6);
+    STANDS(HOGVULDUR_Q, 3);
+    IS(read_text(typed, length + 1), HOGVULDUR_TEXT_TOO_LONG);
+    STANDS(HOGVULDUR_P, 7);
+    STANDS(HOGVULDUR_Q, 0);
+}
+
+/* The longest text of a job, and the longest of the form, whose numbers all have five digits. */
+static void longest_texts(void)
+{
+    static uint16_t ends[2 * HOGVULDUR_MOST_NETS];
+    char *at = text;
+    for (size_t i = 0; i < 2 * HOGVULDUR_MOST_NETS; i++) ends[i] = (uint16_t)(100 + i % 2);
+    IS(hogvuldur_write_job(HOGVULDUR_MOST_FPGAS, HOGVULDUR_MOST_CROSSBARS, HOGVULDUR_MOST_WIRES, HOGVULDUR_MOST_NETS, ends,
+                           2 * HOGVULDUR_MOST_NETS, job, HOGVULDUR_MOST_JOB_BYTES, answer), HOGVULDUR_DONE);
+    job_long = (size_t)answer[HOGVULDUR_WRITTEN];
+    IS(hogvuldur_write_text(job, job_long, (uint8_t *)text, HOGVULDUR_MOST_TEXT_BYTES, answer), HOGVULDUR_DONE);
+    STANDS(HOGVULDUR_WRITTEN, HOGVULDUR_MOST_TEXT_BYTES);
+    IS(read_text(text, HOGVULDUR_MOST_TEXT_BYTES), HOGVULDUR_DONE);
+    at += sprintf(at, "board 3\n65535\n65535\n65535\nnets 65535\n");
+    for (int net = 0; net < 65535; net++) at += sprintf(at, "65535 65535\n");
+    hold("HOGVULDUR_MOST_FORM_BYTES", HOGVULDUR_MOST_FORM_BYTES, (uint64_t)(at - text));
+    IS(read_text(text, HOGVULDUR_MOST_FORM_BYTES), HOGVULDUR_F_OUT_OF_RANGE);
+    IS(read_text(text, HOGVULDUR_MOST_FORM_BYTES + 1), HOGVULDUR_TEXT_TOO_LONG);
+}
+
 static void plans(void)
 {
     make_job(3, NETS);
@@ -158,6 +202,8 @@ static void sheets(void)
 int main(void)
 {
     jobs();
+    texts();
+    longest_texts();
     plans();
     sheets();
     return wrong;

@@ -19,6 +19,8 @@ enum call_name {
     CALL_NET,
     CALL_NET_SECTION,
     CALL_WRITE_JOB,
+    CALL_READ_TEXT,
+    CALL_WRITE_TEXT,
     CALL_ONE_ROUND,
     CALL_FINISH,
     CALL_PLAN,
@@ -31,7 +33,7 @@ enum call_name {
     CALL_COUNT
 };
 
-enum lent_name { LENT_JOB, LENT_SHEET, LENT_ENDS, LENT_PLAN, LENT_ROOM, LENT_SCRATCH, LENT_COUNT };
+enum lent_name { LENT_JOB, LENT_TEXT, LENT_SHEET, LENT_ENDS, LENT_PLAN, LENT_ROOM, LENT_SCRATCH, LENT_COUNT };
 
 /* In place of a run's buffer: the guards of the answer, which is lent with every call; the end of the runs. */
 enum { LENT_ANSWER = LENT_COUNT, NO_MORE_RUNS = 255 };
@@ -40,6 +42,6 @@ enum { LENT_ANSWER = LENT_COUNT, NO_MORE_RUNS = 255 };
 enum { GUARD_SIZE = 64 };
 
 /* Bytes of one element of each lent buffer. */
-#define LENT_ELEMENT_SIZES { 1, 1, 2, 2, 1, 2 }
+#define LENT_ELEMENT_SIZES { 1, 1, 1, 2, 2, 1, 2 }
 
 #endif

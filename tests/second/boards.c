@@ -9,6 +9,7 @@
 #include "make.h"
 #include "nets.h"
 #include "sheet.h"
+#include "texts.h"
 #include "wrong.h"
 
 /* The board at hand, and an assignment with some numbers behind it that no call may change. */
@@ -153,6 +154,7 @@ void run_board(unsigned long number)
     struct file job = made_job(&board);
     job_cases(job);
     writer_cases(job);
+    board_texts(&board, size < MIDDLE ? 8 : 2);
     short_cases(job);
     start_cases(job, size < MIDDLE ? 4 : 1);
     if (!case_plan(job, lent_plan(), lent_scratch())) make_random_start(&board, numbers);

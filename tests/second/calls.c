@@ -6,11 +6,11 @@
 #include "process.h"
 
 const char *const call_names[CALL_COUNT + 1] = {
-    "check", "numbers", "net", "net_section", "write_job", "one_round", "finish", "plan",
+    "check", "numbers", "net", "net_section", "write_job", "read_text", "write_text", "one_round", "finish", "plan",
     "write_sheet", "read_sheet", "audit", "evidence", "spare", "headroom", "listing program",
 };
 
-const char *const lent_names[LENT_COUNT + 1] = {"job", "sheet", "ends", "plan", "room", "scratch", "answer"};
+const char *const lent_names[LENT_COUNT + 1] = {"job", "text", "sheet", "ends", "plan", "room", "scratch", "answer"};
 
 const size_t lent_element_size[LENT_COUNT] = LENT_ELEMENT_SIZES;
 

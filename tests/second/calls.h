@@ -10,7 +10,7 @@
 #include "job.h"
 
 /* The longest buffer that any case lends, in bytes. */
-enum { MOST_LENT = 80000 };
+enum { MOST_LENT = 800000 };
 
 /* In counts and reports: the listing program, as one more call. */
 enum { CALL_LISTING = CALL_COUNT };

@@ -6,10 +6,13 @@
 #include "calls.h"
 #include "report.h"
 
-enum { MOST_REFUSAL = 27, MANY_ROUNDS = 20 };
+enum { MOST_REFUSAL = 32, MANY_ROUNDS = 20, NET_LINE = 6 };
 
 static unsigned long answers[CALL_COUNT + 1][MOST_REFUSAL + 1];
 static unsigned long asked[CALL_COUNT + 1][MOST_REFUSAL + 1];
+
+/* Texts that break and that stop short, by line, the nets' lines as one; that go on behind no net and behind some. */
+static unsigned long breaks[NET_LINE + 1][2], goes_on[2];
 
 static struct {
     unsigned long rounds, with_odd_group, with_odd_groups, newly_over;
@@ -29,6 +32,14 @@ void cover_answer(unsigned call, unsigned refusal)
 void cover_asked(unsigned call, unsigned refusal)
 {
     asked[call][refusal]++;
+}
+
+void cover_text(struct verdict verdict, bool stops_short)
+{
+    if (verdict.number == 31)
+        breaks[verdict.p < NET_LINE ? verdict.p : NET_LINE][stops_short]++;
+    else
+        goes_on[verdict.p > NET_LINE]++;
 }
 
 /* Whether the round put a new pair over the width. */
@@ -100,6 +111,9 @@ void cover_print(void)
     }
     printf("  of FPGAs asked about: spare 9: %lu; headroom 9: %lu 10: %lu 27: %lu\n", asked[CALL_SPARE][9],
            asked[CALL_HEADROOM][9], asked[CALL_HEADROOM][10], asked[CALL_HEADROOM][27]);
+    printf("  texts that break, and that stop short, in lines 1 to 5 and in a net's:");
+    for (unsigned line = 1; line <= NET_LINE; line++) printf(" %lu, %lu;", breaks[line][0], breaks[line][1]);
+    printf(" that go on behind no net %lu, behind some %lu\n", goes_on[0], goes_on[1]);
     printf("  rounds %lu: with one odd group %lu, with more %lu, with a new pair over the width %lu\n", seen.rounds,
            seen.with_odd_group, seen.with_odd_groups, seen.newly_over);
     printf("  chains %lu: settled at once %lu, of %d rounds or more %lu, with a degree at the limit %lu\n", seen.chains,
@@ -118,6 +132,8 @@ static bool is_due(unsigned call, unsigned refusal)
     bool job = (refusal >= 1 && refusal <= 10) || refusal == 27, sheet = refusal >= 21 && refusal <= 26;
     switch (call) {
     case CALL_WRITE_JOB: return (job && refusal > 2 && refusal != 8) || refusal == 11;
+    case CALL_READ_TEXT: return (job && refusal > 2 && refusal != 8) || refusal == 11 || refusal == 31 || refusal == 32;
+    case CALL_WRITE_TEXT: return job || refusal == 11;
     case CALL_ONE_ROUND:
     case CALL_FINISH: return job || (refusal >= 11 && refusal <= 13);
     case CALL_PLAN: return job || refusal == 11 || refusal == 12;
@@ -150,6 +166,9 @@ void cover_demand(bool with_listing)
     demand(asked[CALL_SPARE][9] > 0, "spare of an FPGA that the board has not");
     demand(asked[CALL_HEADROOM][9] > 0 && asked[CALL_HEADROOM][27] > 0 && asked[CALL_HEADROOM][10] > 0,
            "headroom of a first and of a second FPGA that the board has not, and of one twice");
+    for (unsigned line = 1; line <= NET_LINE; line++)
+        demand(breaks[line][0] > 0 && breaks[line][1] > 0, "a text that breaks, and one that stops short, in each line");
+    demand(goes_on[0] > 0 && goes_on[1] > 0, "text behind no net and behind some");
     demand(seen.settled > 0, "a chain of no rounds");
     demand(seen.rounds > 0, "a round that moves nets");
     demand(seen.many > 0, "a chain of many rounds");

@@ -10,6 +10,9 @@ void cover_answer(unsigned call, unsigned refusal);
 /* A call was to answer so to the FPGAs asked about, on a job that it accepts. */
 void cover_asked(unsigned call, unsigned refusal);
 
+/* A text was to be refused so, 31 or 32; one that breaks may stop short where it does. */
+void cover_text(struct verdict verdict, bool stops_short);
+
 /* A call was to plan this job, or to refuse it. */
 void cover_degrees(unsigned call, const struct job *job, unsigned refusal);
 

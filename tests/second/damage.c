@@ -7,6 +7,8 @@
 #include "chance.h"
 #include "make.h"
 #include "sheet.h"
+#include "text.h"
+#include "typed.h"
 
 enum { VALUES = 5 };
 
@@ -48,6 +50,7 @@ void every_call(struct file job, struct list plan, struct file sheet)
     case_numbers(job);
     case_net(job, chance_below(read.n + 2));
     case_net_section(job);
+    case_write_text(job, text_size(&read) + chance_below(3));
     case_rounds(job, copy_of(plan), LEAST_SCRATCH + chance_below(3));
     case_plan(job, copy_of(plan), LEAST_SCRATCH + chance_below(3));
     case_write_sheet(job, plan, sheet_size(&read) + chance_below(3));

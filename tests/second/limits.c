@@ -10,6 +10,8 @@
 #include "nets.h"
 #include "report.h"
 #include "sheet.h"
+#include "text.h"
+#include "typed.h"
 
 /* The job at hand: nets that take turns between FPGAs 0 and 1, or 1 and 0. */
 static uint8_t bytes[MOST_JOB + BEYOND];
@@ -41,6 +43,7 @@ static void numbers_case(const unsigned number[4])
     struct file job = limit_job(number);
     case_check(job);
     case_write_job(number, list, job.length);
+    if (number[3] <= MOST_NETS + 1) case_read_text(text_of(number, ends), job.length);
     if (job.length > 1000) return;
     struct list plan = {numbers, n};
     struct file sheet = {bytes, job.length};

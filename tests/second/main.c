@@ -19,8 +19,10 @@
 #include "cover.h"
 #include "limits.h"
 #include "listing.h"
+#include "longest.h"
 #include "numbered.h"
 #include "report.h"
+#include "texts.h"
 
 struct options {
     uint64_t seed;
@@ -84,6 +86,8 @@ static void run_all(const struct options *options)
     chance_start(options->seed, UINT64_MAX);
     run_numbered();
     run_limits();
+    run_texts();
+    run_longest();
     for (unsigned long board = 0; board < options->boards; board++) run_one_board(options, board);
     if (options->listing) run_listings(options->listing, options->listings, options->seed);
     cover_print();

@@ -5,6 +5,8 @@
 #include "cases.h"
 #include "chain.h"
 #include "chance.h"
+#include "text.h"
+#include "typed.h"
 
 static uint16_t numbers[MOST_NETS];
 
@@ -48,6 +50,7 @@ void faulty_nets(struct made *board)
         spoil(&ends.numbers[2 * one], f);
         if (chance_one_in(3)) spoil(&ends.numbers[2 * other], f);
         case_write_job(board->number, ends, job_size(n));
+        case_read_text(text_of(board->number, board->ends), job_size(n));
         some_calls(made_job(board), n);
         ends.numbers[2 * other] = kept[2];
         ends.numbers[2 * other + 1] = kept[3];

@@ -9,6 +9,8 @@
 #include "make.h"
 #include "report.h"
 #include "sheet.h"
+#include "text.h"
+#include "typed.h"
 
 static struct made board;
 static uint16_t numbers[MOST_NETS + BEYOND];
@@ -176,6 +178,57 @@ static void ticket_2(void)
     case_headroom(job, 4, 4);
 }
 
+/* Texts with the place where they break, and others with what their numbers meet. */
+static const struct {
+    const char *text;
+    struct verdict verdict;
+} typed_cases[] = {
+    {"", {31, 1, 0}},
+    {"board 4\n3\n2\n2\nnets 0\n", {31, 1, 6}},
+    {"board 3\r\n3\r\n2\r\n2\r\nnets 0\r\n", {31, 1, 7}},
+    {"board 3\n65536\n2\n2\nnets 0\n", {31, 2, 4}},
+    {"board 3\n65535\n2\n2\nnets 0\n", {3, 2, 0}},
+    {"board 3\n3\n01\n2\nnets 0\n", {31, 3, 1}},
+    {"board 3\n3\n2\n\nnets 0\n", {31, 4, 0}},
+    {"board 3\n3\n2\n2\nnets 65536\n", {31, 5, 9}},
+    {"board 3\n3\n2\n2\nnets", {31, 5, 4}},
+    {"board 3\n3\n2\n2\nnets 0", {31, 5, 6}},
+    {"board 3\n3\n2\n2\nnets 0\n", {0, 0, 0}},
+    {"board 3\n3\n2\n2\nnets 0\n\n", {32, 6, 0}},
+    {"board 3\n3\n2\n2\nnets 5000\n0 1\n", {31, 7, 0}},
+    {"board 3\n3\n2\n2\nnets 2\n0  1\n1 2\n", {31, 6, 2}},
+    {"board 3\n3\n2\n2\nnets 2\n0 1 \n1 2\n", {31, 6, 3}},
+    {"board 3\n3\n2\n2\nnets 2\n0 1\n1 2", {31, 7, 3}},
+    {"board 3\n3\n2\n2\nnets 2\n0 1\n1 2\n0", {32, 8, 0}},
+    {"board 3\n3\n2\n1\nnets 2\n3 0\n1 1", {31, 7, 3}},
+    {"board 3\n3\n2\n1\nnets 2\n3 0\n1 1\n ", {32, 8, 0}},
+    {"board 3\n3\n2\n1\nnets 2\n3 0\n1 1\n", {6, 6, 0}},
+    {"board 3\n3\n2\n2\nnets 2\n0 1\n3 0\n", {9, 1, 14}},
+    {"board 3\n3\n2\n2\nnets 2\n0 1\n0 3\n", {27, 1, 16}},
+    {"board 3\n3\n2\n2\nnets 2\n0 1\n2 2\n", {10, 1, 16}},
+};
+
+/* Case 2 typed by hand, and texts that are refused; all of them also with too little room. */
+static void ticket_3(void)
+{
+    static const char typed_2[] = "board 3\n3\n2\n2\nnets 4\n0 1\n1 2\n2 0\n0 1\n";
+    static struct typed typed;
+    report_part("ticket", 3);
+    struct file job = job_of(3, 2, 2, "01 12 20 01"), text = {(const uint8_t *)typed_2, sizeof typed_2 - 1};
+    struct file written = case_read_text(text, job.length);
+    must(written.length == job.length && memcmp(written.bytes, job.bytes, job.length) == 0, "the job of the text");
+    written = case_write_text(job, text.length);
+    must(written.length == text.length && memcmp(written.bytes, typed_2, text.length) == 0, "the text of the job");
+    for (size_t i = 0; i < sizeof typed_cases / sizeof *typed_cases; i++) {
+        const struct verdict *want = &typed_cases[i].verdict;
+        struct file one = {(const uint8_t *)typed_cases[i].text, strlen(typed_cases[i].text)};
+        struct verdict verdict = read_typed(one, &typed);
+        if (verdict.number != want->number || verdict.p != want->p || verdict.q != want->q)
+            report_failure("ticket 3, text %zu: not the refusal given there", i + 1);
+        try_text(one);
+    }
+}
+
 /* Case 8 twice on one board: two odd groups, and the totals may still differ by one only. */
 static void two_odd_groups(void)
 {
@@ -219,6 +272,7 @@ void run_numbered(void)
     cases_9_to_11();
     ticket_1();
     ticket_2();
+    ticket_3();
     two_odd_groups();
     case_2_damaged();
 }

@@ -4,8 +4,8 @@
 #include <stdarg.h>
 #include <stdio.h>
 
-/* Later failures are counted but not printed. */
-enum { MOST_PRINTED = 10 };
+/* Later failures are counted but not printed; nor are more bytes of a buffer. */
+enum { MOST_PRINTED = 10, MOST_SHOWN = 40000 };
 
 static struct {
     uint64_t seed;
@@ -47,6 +47,17 @@ bool case_failed(void)
     return now.case_failed;
 }
 
+/* A text is printed as such, other bytes in hex. */
+static void print_byte(uint8_t byte, bool of_text)
+{
+    if (of_text && byte >= ' ' && byte <= '~' && byte != '\\')
+        putchar(byte);
+    else if (of_text && byte == '\n')
+        fputs("\\n", stdout);
+    else
+        printf(of_text ? "\\%03o" : "%02x", byte);
+}
+
 static void print_lent(const struct call *call, unsigned name)
 {
     const struct lent *lent = &call->lent[name];
@@ -54,7 +65,8 @@ static void print_lent(const struct call *call, unsigned name)
     printf("  %s, %zu %s:", lent_names[name], lent->length, lent_size(call, name) > lent->length ? "numbers" : "bytes");
     if (lent->given_size < lent_size(call, name)) printf(" filled with %02x", lent->fill);
     if (lent->given_size > 0) putchar(' ');
-    for (size_t i = 0; i < lent->given_size; i++) printf("%02x", lent->given[i]);
+    for (size_t i = 0; i < lent->given_size && i < MOST_SHOWN; i++) print_byte(lent->given[i], name == LENT_TEXT);
+    if (lent->given_size > MOST_SHOWN) fputs(" and so on", stdout);
     putchar('\n');
 }
 

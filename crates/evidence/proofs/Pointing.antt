@@ -9,7 +9,7 @@ use borrow.Author.Tests.{ne-eqb}
 use types.Run.{OneOf, miss}
 use denote.Enum.Declared.{tagOf}
 use Rattle.words.specs.declared.Place.{Place}
-use Rattle.words.specs.declared.Place.the-variants.{Byte, Net, End, Fpga, Crossbar, Load, Length, Nowhere}
+use Rattle.words.specs.declared.Place.the-variants.{Byte, Net, End, Fpga, Crossbar, Load, Length, Line, Nowhere}
 use Rattle.words.specs.declared.Refusal.{Refusal}
 use Rattle.words.specs.Verdict.{atEnd}
 use Rattle.words.proofs.Place.{the-type}
@@ -28,6 +28,7 @@ elsewhere byte net end crossbar left b n e c (Fpga v) h = refl
 elsewhere byte net end crossbar left b n e c (Crossbar x) h = c h (x .0)
 elsewhere byte net end crossbar left b n e c (Load v x) h = refl
 elsewhere byte net end crossbar left b n e c (Length k) h = refl
+elsewhere byte net end crossbar left b n e c (Line line at) h = refl
 elsewhere byte net end crossbar left b n e c Nowhere h = refl
 
 module _ (job : List ℕ) (r : Refusal) where
@@ -47,15 +48,15 @@ module _ (job : List ℕ) (r : Refusal) where
     both-of-10 p q both e = rw (place, ne-eqb _ 9 p, ne-eqb _ 27 q, e)
 
   -- no number of a net
-  pub job-elsewhere : OneOf (0 ∷ 1 ∷ 3 ∷ 4 ∷ 5 ∷ 6 ∷ 7 ∷ []) (tagOf the-type (r .place)) → jobFault job r ≡ nothing
+  pub job-elsewhere : OneOf (0 ∷ 1 ∷ 3 ∷ 4 ∷ 5 ∷ 6 ∷ 7 ∷ 8 ∷ []) (tagOf the-type (r .place)) → jobFault job r ≡ nothing
   unfolding jobFault
   job-elsewhere h =
-      let left : List ℕ = 0 ∷ 1 ∷ 3 ∷ 4 ∷ 5 ∷ 6 ∷ 7 ∷ [] in
+      let left : List ℕ = 0 ∷ 1 ∷ 3 ∷ 4 ∷ 5 ∷ 6 ∷ 7 ∷ 8 ∷ [] in
       elsewhere _ _ _ _ left (λ _ _. refl) (λ _ _. refl) (λ no. absurd (miss left 2 tt no)) (λ _ _. refl) (r .place) h
 
   -- no byte, net or crossbar
-  pub sheet-elsewhere : OneOf (2 ∷ 3 ∷ 5 ∷ 6 ∷ 7 ∷ []) (tagOf the-type (r .place)) → sheetFault job r ≡ nothing
+  pub sheet-elsewhere : OneOf (2 ∷ 3 ∷ 5 ∷ 6 ∷ 7 ∷ 8 ∷ []) (tagOf the-type (r .place)) → sheetFault job r ≡ nothing
   unfolding sheetFault
   sheet-elsewhere h =
-      let left : List ℕ = 2 ∷ 3 ∷ 5 ∷ 6 ∷ 7 ∷ [] in
+      let left : List ℕ = 2 ∷ 3 ∷ 5 ∷ 6 ∷ 7 ∷ 8 ∷ [] in
       elsewhere _ _ _ _ left (λ no. absurd (miss left 0 tt no)) (λ no. absurd (miss left 1 tt no)) (λ _ _ _. refl) (λ no. absurd (miss left 4 tt no)) (r .place) h

@@ -5,7 +5,7 @@ use Prim.Native.Nat.{ℕ, _+_, _*_}
 use lib.Dec.{eqb}
 use denote.Ref.{RefT, now}
 use Rattle.words.specs.declared.Place.{Place}
-use Rattle.words.specs.declared.Place.the-variants.{Byte, Net, End, Fpga, Crossbar, Load, Length, Nowhere}
+use Rattle.words.specs.declared.Place.the-variants.{Byte, Net, End, Fpga, Crossbar, Load, Length, Line, Nowhere}
 use Rattle.words.specs.declared.Refusal.{Refusal}
 use Rattle.words.specs.declared.Verdict.{Verdict}
 use Rattle.words.specs.declared.Verdict.the-variants.{Done, Refused}
@@ -36,6 +36,7 @@ byPlace byte net end crossbar (Fpga v) = nothing
 byPlace byte net end crossbar (Crossbar x) = crossbar (x .0)
 byPlace byte net end crossbar (Load v x) = nothing
 byPlace byte net end crossbar (Length n) = nothing
+byPlace byte net end crossbar (Line line at) = nothing
 byPlace byte net end crossbar Nowhere = nothing
 
 -- of a job's refusal: 9 and 27, the number at its byte; 10, both numbers of the net

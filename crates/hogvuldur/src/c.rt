@@ -2,12 +2,15 @@
 ghost use mathlib.Core.Path.{_≡_};
 ghost use lib.ListN.{length};
 ghost use Rattle.laws.specs.Row.{at, row};
+ghost use Rattle.words.specs.declared.Written.{Written};
 ghost use Rattle.words.specs.Verdict.{writtenBy};
 ghost use Rattle.words.specs.Lent.{roomAfter};
 ghost use Rattle.job.specs.Job.{nIn};
 ghost use Rattle.job.specs.Check.{jobVerdict, checkedOf};
 ghost use Rattle.job.specs.Read.{netAt};
 ghost use Rattle.job_writer.specs.Write.{writtenLength, writeVerdict, jobOf};
+ghost use Rattle.text_reader.specs.ReadText.{ReadText};
+ghost use Rattle.text_writer.specs.WriteText.{textIn, writeTextVerdict};
 ghost use Rattle.reader.specs.Held.{numbersOf};
 ghost use Rattle.spare.specs.Spare.{spareRoom, headroomRoom};
 ghost use Rattle.round.specs.declared.Round.{Round};
@@ -42,6 +45,8 @@ use tell::tell_round;
 use tell::tell_section;
 use tell::tell_verdict;
 use tell::tell_written;
+use text_reader::read_text;
+use text_writer::write_text;
 use words::Crossbar;
 use words::Fpga;
 use words::Net;
@@ -91,6 +96,21 @@ pub extern "C" fn hogvuldur_write_job(
         write_job(Fpga(f), Crossbar(c), m, Net(n), ends, room),
         answer,
     )
+}
+
+#[no_mangle]
+pub extern "C" fn hogvuldur_read_text(text: &[u8], room: &mut [u8], answer: &mut [u64; 4]) -> u16
+    ensures { λ r. ⌜ Told Written (ReadText (now (text .entry)) (now (room .entry)) (now (room .exit))) writtenInC (r, now (answer .exit)) ⌝ }
+{
+    tell_written(read_text(text, room), answer)
+}
+
+#[no_mangle]
+pub extern "C" fn hogvuldur_write_text(job: &[u8], room: &mut [u8], answer: &mut [u64; 4]) -> u16
+    ensures { λ r. ⌜ (r, now (answer .exit)) ≡ writtenInC (writtenBy (writeTextVerdict (now (job .entry)) (length (now (room .entry)))) (length (textIn (now (job .entry))))) ⌝ }
+    ensures { λ r. ⌜ now (room .exit) ≡ roomAfter (writeTextVerdict (now (job .entry)) (length (now (room .entry)))) (textIn (now (job .entry))) (now (room .entry)) ⌝ }
+{
+    tell_written(write_text(job, room), answer)
 }
 
 #[no_mangle]

@@ -32,6 +32,10 @@ pub use reader::numbers_held;
 pub use reader::numbers_of;
 pub use reader::open;
 
+// The job as text.
+pub use text_reader::read_text;
+pub use text_writer::write_text;
+
 // The board.
 pub use spare::Room;
 pub use spare::headroom;

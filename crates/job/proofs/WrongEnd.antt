@@ -6,7 +6,7 @@ use Prim.Native.Nat.{ℕ, _≤_, _<_}
 use native.Mathlib.Omega.{arith}
 use borrow.Author.Tests.{leb-true, leb-false, eqb-true}
 use Rattle.words.specs.declared.Place.{Place}
-use Rattle.words.specs.declared.Place.the-variants.{Byte, Net, End, Fpga, Crossbar, Load, Length, Nowhere}
+use Rattle.words.specs.declared.Place.the-variants.{Byte, Net, End, Fpga, Crossbar, Load, Length, Line, Nowhere}
 use Rattle.words.specs.declared.Refusal.{Refusal}
 use Rattle.words.specs.Verdict.{refuse, atEnd}
 use Rattle.words.specs.Number.{word}
@@ -32,6 +32,7 @@ IfEnd P (Fpga v) = Unit
 IfEnd P (Crossbar x) = Unit
 IfEnd P (Load v x) = Unit
 IfEnd P (Length n) = Unit
+IfEnd P (Line line byte) = Unit
 IfEnd P Nowhere = Unit
 
 abbrev Right : List ℕ → Refusal → Type 0

@@ -113,31 +113,38 @@ head-numbers job l =
         let z : k + 0 ≡ k = omega arith in
         numbers-first (drop k job) (simp length-drop (omega arith)) ∙ rw (word-drop, drop-drop, z)
 
+-- the list of FPGA numbers of a job whose length is right
+module _ (job : List ℕ) (long : length job ≡ jobLength job) where
+  pub nets-length : length (netsIn job) ≡ 2 * nIn job
+  nets-length = length-numbers (drop (netsAt job) job) ∙ simp length-drop (omega (arith, long))
+
+  net-number : (k at : ℕ) → k < 2 * nIn job → at ≡ netsAt job + 2 * k → getD (netsIn job) k 0 ≡ word job at
+  net-number k at l e =
+      number-at (drop (netsAt job) job) k (simp length-drop (omega (arith, long))) ∙ word-drop (netsAt job) job (2 * k) ∙ ap (word job) (sym e)
+
+  pub nets-first : (i : ℕ) → i < nIn job → firstOf (netsIn job) i ≡ firstIn job i
+  nets-first i l = net-number (2 * i) _ (omega arith) (omega arith)
+
+  pub nets-second : (i : ℕ) → i < nIn job → secondOf (netsIn job) i ≡ secondIn job i
+  nets-second i l = net-number (2 * i + 1) _ (omega arith) (omega arith)
+
 -- A job that passes the check is what the writer writes for what it reads as.
 module _ (job : List ℕ) (done : jobVerdict job ≡ Done) where
   long : length job ≡ jobLength job
   long = passes job done .long
-
-  pub nets-length : length (netsIn job) ≡ 2 * nIn job
-  nets-length = length-numbers (drop (netsAt job) job) ∙ simp length-drop (omega (arith, long))
 
   pub is-written : AreBytes job → job ≡ jobOf (fIn job) (cIn job) (mIn job) (nIn job) (netsIn job)
   unfolding jobOf netsAt
   is-written small =
       sym (bytes-numbers job (omega (arith, long)) small)
       ∙ ap bytes (head-numbers job (head-long job (its-head job done)))
-      ∙ rw (three job (its-head job done), take-all (2 * nIn job) (netsIn job) (omega (arith, nets-length)))
-
-  -- a number of the net list is the job's
-  net-number : (k at : ℕ) → k < 2 * nIn job → at ≡ netsAt job + 2 * k → getD (netsIn job) k 0 ≡ word job at
-  net-number k at l e =
-      number-at (drop (netsAt job) job) k (simp length-drop (omega (arith, long))) ∙ word-drop (netsAt job) job (2 * k) ∙ ap (word job) (sym e)
+      ∙ rw (three job (its-head job done), take-all (2 * nIn job) (netsIn job) (omega (arith, nets-length job long)))
 
   pub writer-accepts : (room : ℕ) → length job ≤ room → writeVerdict (fIn job) (cIn job) (mIn job) (nIn job) (netsIn job) room ≡ Done
   unfolding netsAt
   writer-accepts room h =
-      by-ends _ _ _ _ _ room (its-ranges job (its-head job done)) (omega (arith, nets-length)) (omega (arith, long))
-      ∙ nets-same (fIn job) headLong _ _ _ _ (nIn job) (λ i l. net-number (2 * i) _ (omega arith) (omega arith)) (λ i l. net-number (2 * i + 1) _ (omega arith) (omega arith))
+      by-ends _ _ _ _ _ room (its-ranges job (its-head job done)) (omega (arith, nets-length job long)) (omega (arith, long))
+      ∙ nets-same (fIn job) headLong _ _ _ _ (nIn job) (nets-first job long) (nets-second job long)
       ∙ its-nets job done
 
 -- A written file is the only one with its meaning.

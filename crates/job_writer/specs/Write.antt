@@ -1,6 +1,6 @@
 -- The job writer: f, c, m, n and a list of FPGA numbers, two for each net, to a job in lent room.
 use mathlib.Core.Path.{_≡_}
-use mathlib.Core.List.{List, _∷_}
+use mathlib.Core.List.{List, [], _∷_}
 use Prim.Native.Nat.{ℕ, _+_, _*_}
 use lib.ListN.{length, getD, take}
 use Rattle.words.specs.declared.Verdict.{Verdict}
@@ -29,7 +29,10 @@ writeVerdict f c m n ends roomLength =
     tooShort roomLength (writtenLength n) then
     netsVerdict f headLong (firstOf ends) (secondOf ends) n
 
--- the job that is written
+-- the head of the job that is written, and the job
+abbrev pub headOf : ℕ → ℕ → ℕ → ℕ → List ℕ
+headOf f c m n = bytes (3 ∷ f ∷ c ∷ m ∷ n ∷ [])
+
 unfoldable pub jobOf : ℕ → ℕ → ℕ → ℕ → List ℕ → List ℕ
 jobOf f c m n ends = bytes (3 ∷ f ∷ c ∷ m ∷ n ∷ take (2 * n) ends)
 

@@ -1,12 +1,14 @@
 // The job writer.
 ghost use mathlib.Core.Path.{_≡_};
-ghost use Prim.Native.Nat.{_*_, _≤_, _<_};
-ghost use lib.ListN.{length};
+ghost use Prim.Native.Nat.{_+_, _*_, _≤_, _<_};
+ghost use mathlib.Core.List.{[], _∷_, _++_};
+ghost use lib.ListN.{length, take, drop};
 ghost use Rattle.words.specs.Verdict.{writtenBy};
+ghost use Rattle.words.specs.Number.{bytes};
 ghost use Rattle.words.specs.Lent.{onto, roomAfter};
 ghost use Rattle.job.specs.Job.{headLong};
 ghost use Rattle.job.specs.Check.{netsVerdict};
-ghost use Rattle.job_writer.specs.Write.{firstOf, secondOf, writtenLength, writeVerdict, jobOf};
+ghost use Rattle.job_writer.specs.Write.{firstOf, secondOf, writtenLength, writeVerdict, headOf, jobOf};
 use job::read::first_at;
 use job::well_formed::check_net;
 use job::well_formed::check_ranges;
@@ -26,7 +28,7 @@ use words::written_by;
 const HEAD: usize = 5;
 
 // The byte where the nets start.
-const START: usize = 2 * HEAD;
+pub const START: usize = 2 * HEAD;
 
 // Refusals 9, 27 and 10 for the nets of a list, in order, with the bytes that their numbers would have.
 fn check_ends(ends: &[u16], f: usize, n: usize) -> Verdict
@@ -46,7 +48,7 @@ fn check_ends(ends: &[u16], f: usize, n: usize) -> Verdict
     Verdict::Done
 }
 
-fn written_length(n: usize) -> usize
+pub fn written_length(n: usize) -> usize
     requires { ⌜ n < 65536 ⌝ }
     ensures { λ r. ⌜ r ≡ writtenLength n ⌝ }
 {
@@ -71,13 +73,31 @@ fn check_write(f: usize, c: usize, m: usize, n: usize, ends: &[u16], room_length
     check_ends(ends, f, n)
 }
 
+// Writes the head to the front of the room.
+pub fn put_head(room: &mut [u8], f: u16, c: u16, m: u16, n: u16)
+    requires { ⌜ headLong ≤ length (now room) ⌝ }
+    ensures { λ r. ⌜ now (room .exit) ≡ onto (headOf f c m n) (now (room .entry)) ⌝ }
+{
+    let head: [u16; HEAD] = [3, f, c, m, n];
+    write_list(room, &head);
+}
+
+// Writes net i, between FPGAs v and w, where it stands in a job; what stands before it stays.
+pub fn put_net(room: &mut [u8], i: usize, v: u16, w: u16)
+    requires { ⌜ (i < 65536) × (writtenLength i + 4 ≤ length (now room)) ⌝ }
+    ensures { λ r. ⌜ now (room .exit) ≡ take (writtenLength i) (now (room .entry)) ++ onto (bytes (v ∷ w ∷ [])) (drop (writtenLength i) (now (room .entry))) ⌝ }
+{
+    let start = written_length(i);
+    let ends = [v, w];
+    write_behind(room, start, &ends);
+}
+
 // Writes the job to the front of the room.
 fn put_job(f: u16, c: u16, m: u16, n: u16, ends: &[u16], room: &mut [u8])
     requires { ⌜ (2 * n ≤ length (now ends)) × (writtenLength n ≤ length (now room)) ⌝ }
     ensures { λ r. ⌜ now (room .exit) ≡ onto (jobOf f c m n (now (ends .entry))) (now (room .entry)) ⌝ }
 {
-    let head: [u16; HEAD] = [3, f, c, m, n];
-    write_list(room, &head);
+    put_head(room, f, c, m, n);
     let count = 2 * wide(n);
     write_behind(room, START, &ends[..count]);
 }

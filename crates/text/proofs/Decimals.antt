@@ -42,3 +42,10 @@ decimal-short zero n h = rw (decimal-small n (omega arith)) (omega arith)
 decimal-short (suc k) n h =
     dite (decLt n 10) (λ l. rw (decimal-small n l) (omega arith))
     (λ g. rw (decimal-more n (omega arith)) (simp length-append (omega (arith, decimal-short k (n / 10) (omega arith)))))
+
+-- how many digits: one below 10, and one more than its tenth has from there on
+pub one-long : (n : ℕ) → n < 10 → length (decimal n) ≡ 1
+one-long n h = rw (decimal-small n h)
+
+pub more-long : (n : ℕ) → 10 ≤ n → length (decimal n) ≡ length (decimal (n / 10)) + 1
+more-long n h = rw (decimal-more n h) (length-append (decimal (n / 10)) _)

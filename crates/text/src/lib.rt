@@ -1,12 +1,13 @@
 // Text formed in lent memory: `at` is where the text so far ends, the answer is where it ends then. What has no room is left out.
 ghost use mathlib.Core.Path.{_≡_};
 ghost use mathlib.Core.List.{[], _∷_};
-ghost use lib.ListN.{take};
+ghost use Prim.Native.Nat.{_≤_};
+ghost use lib.ListN.{length, take};
 ghost use Rattle.text.specs.Text.{upTo, puts};
 ghost use Rattle.text.specs.Forms.{decimal, spaced, allSpaced, line as lineText};
 use words::number::wide;
 
-fn byte(room: &mut [u8], at: usize, b: u8) -> usize
+pub fn byte(room: &mut [u8], at: usize, b: u8) -> usize
     ensures { λ r. ⌜ upTo (now (room .exit)) r ≡ puts (upTo (now (room .entry)) at) (b ∷ []) ⌝ }
 {
     if room.len() <= at {
@@ -27,7 +28,7 @@ pub fn word(room: &mut [u8], at: usize, letters: &[u8]) -> usize
 }
 
 // A number in decimal: first its digits but the last.
-fn digits(room: &mut [u8], at: usize, n: usize) -> usize
+pub fn digits(room: &mut [u8], at: usize, n: usize) -> usize
     ensures { λ r. ⌜ upTo (now (room .exit)) r ≡ puts (upTo (now (room .entry)) at) (decimal n) ⌝ }
 {
     if n < 10 {
@@ -35,6 +36,19 @@ fn digits(room: &mut [u8], at: usize, n: usize) -> usize
     }
     let end = digits(room, at, n / 10);
     byte(room, end, (48 + n % 10) as u8)
+}
+
+// How many digits a number has.
+pub fn digits_long(n: usize) -> usize
+    ensures { λ r. ⌜ (r ≡ length (decimal n)) × (r ≤ 20) ⌝ }
+{
+    let mut long: usize = 1;
+    let mut left = n;
+    while 10 <= left {
+        left /= 10;
+        long += 1;
+    }
+    long
 }
 
 // A space and the number.

@@ -3,7 +3,7 @@ use mathlib.Core.Bool.{Bool, true, false}
 use Prim.Native.Nat.{ℕ, zero, suc}
 use lib.Dec.{ltb}
 use Rattle.words.specs.declared.Place.{Place}
-use Rattle.words.specs.declared.Place.the-variants.{Byte, Net, End, Fpga, Crossbar, Load, Length, Nowhere}
+use Rattle.words.specs.declared.Place.the-variants.{Byte, Net, End, Fpga, Crossbar, Load, Length, Line, Nowhere}
 use Rattle.words.specs.declared.Verdict.{Verdict}
 use Rattle.words.specs.declared.Verdict.the-variants.{Done, Refused}
 use Rattle.words.specs.declared.Written.{Written}
@@ -33,6 +33,10 @@ atLoad v x = Load (record { 0 = v }) (record { 0 = x })
 abbrev pub ofLength : ℕ → Place
 ofLength n = Length n
 
+-- a byte of a text, by its line from 1 and its place in that line from 0
+abbrev pub atLine : ℕ → ℕ → Place
+atLine line byte = Line line byte
+
 abbrev pub nowhere : Place
 nowhere = Nowhere
 
@@ -45,6 +49,7 @@ placeP (Fpga v) = v .0
 placeP (Crossbar x) = x .0
 placeP (Load v x) = v .0
 placeP (Length n) = n
+placeP (Line line byte) = line
 placeP Nowhere = 0
 
 abbrev pub placeQ : Place → ℕ
@@ -55,6 +60,7 @@ placeQ (Fpga v) = 0
 placeQ (Crossbar x) = 0
 placeQ (Load v x) = x .0
 placeQ (Length n) = 0
+placeQ (Line line byte) = byte
 placeQ Nowhere = 0
 
 -- ---- the verdicts

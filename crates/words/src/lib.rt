@@ -23,6 +23,8 @@ pub enum Place {
     Crossbar(Crossbar),
     Load(Fpga, Crossbar),
     Length(usize),
+    // A byte of a text, by its line from 1 and its place in that line from 0.
+    Line(usize, usize),
     Nowhere,
 }
 
@@ -74,6 +76,7 @@ pub fn p_of(v: Verdict) -> usize
                 Place::Crossbar(x) => x.0 as usize,
                 Place::Load(v, _) => v.0 as usize,
                 Place::Length(n) => n,
+                Place::Line(line, _) => line,
                 Place::Nowhere => 0,
             }
         }
@@ -91,6 +94,7 @@ pub fn q_of(v: Verdict) -> usize
             match place {
                 Place::End(_, at) => at,
                 Place::Load(_, x) => x.0 as usize,
+                Place::Line(_, byte) => byte,
                 Place::Byte(_) => 0,
                 Place::Net(_) => 0,
                 Place::Fpga(_) => 0,

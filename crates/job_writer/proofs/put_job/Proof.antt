@@ -9,11 +9,8 @@ use Prim.Native.Nat.{_*_}
 use Rattle.job_writer.proofs.put_job.Statement.{statement}
 use Rattle.job_writer.proofs.put_job.Tie as tie
 
-slice-aggregate-write-list : tie.Need-slice-aggregate-write-list
-slice-aggregate-write-list c = search needs
-
-write-list-requires : tie.Need-write-list-requires
-write-list-requires c κs = search needs
+put-head-requires : tie.Need-put-head-requires
+put-head-requires c κs = search needs
 
 wide-requires : tie.Need-wide-requires
 wide-requires c κs = search needs
@@ -25,23 +22,22 @@ slice-aggregate-write-behind : tie.Need-slice-aggregate-write-behind
 slice-aggregate-write-behind c = sym (length-take-le _ _ (omega arith))
 
 write-behind-requires : tie.Need-write-behind-requires
-write-behind-requires c κs = let z = c .before .before .before .before .before .write-list .kept .0 in
+write-behind-requires c κs = let z = c .before .before .before .before .before .put-head .kept .0 in
     simp length-take (omega arith)
 
 same-length : tie.Need-same-length
 same-length c = search needs
 
 returns : tie.Need-returns
-returns c = let n = c .before .before .before .before .before .before .before .before .before .before .before .before .before .args .n in
+returns c = let n = c .before .before .before .before .before .before .before .before .before .before .before .before .args .n in
     let count : 2 * c .before .before .before .before .before .wide .result ≡ 2 * n = omega arith in
-    head-then-nets _ _ _ n _ _ _ _ _ count (c .before .before .before .before .before .before .before .before .write-list .ensures) (c .before .before .write-behind .ensures)
+    head-then-nets _ _ _ n _ _ _ _ _ count (c .before .before .before .before .before .before .before .before .put-head .ensures) (c .before .before .write-behind .ensures)
 
 pub put-job-spec : {M : Type 1} → statement M
 put-job-spec =
     tie.close
     (tie.spec
-    slice-aggregate-write-list
-    write-list-requires
+    put-head-requires
     wide-requires
     mul-count
     slice-aggregate-write-behind

@@ -1,0 +1,2 @@
+-- The text reader: what it answers, and what becomes of the room.
+pub mod ReadText
