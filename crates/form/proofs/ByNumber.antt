@@ -1,11 +1,11 @@
 -- The lines of the nets by the nets' numbers: what stands where the lines before net i end.
 -- Assumes nothing.
-use mathlib.Core.Path.{_≡_, refl, sym, ap, subst, _∙_}
-use mathlib.Core.List.{List, [], _∷_, _++_}
+use mathlib.Core.Path.{_≡_, sym, ap, _∙_}
+use mathlib.Core.List.{List, _∷_, _++_}
 use Prim.Native.Nat.{ℕ, suc, _+_, _-_, _*_, _≤_, _<_}
 use native.Mathlib.Omega.{arith}
-use lib.ListN.{length, getD, take, drop, length-drop, take-append-drop}
-use lib.Seq.{drop-cons, drop-drop, drop-length, drop-append-add, getD-drop}
+use lib.ListN.{length, getD, drop, length-drop}
+use lib.Seq.{drop-cons, drop-drop, getD-drop}
 use Rattle.form.specs.declared.NetRead.{NetRead}
 use Rattle.form.specs.Form.{netLine, netsText, EndsOf}
 use Rattle.form.specs.Walk.{NetAt}

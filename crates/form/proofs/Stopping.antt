@@ -1,15 +1,15 @@
 -- Where the walk of a text stops: the longest beginning, taken piece by piece.
 -- Assumes nothing.
-use mathlib.Core.Path.{_≡_, refl, sym, ap, subst, _∙_}
+use mathlib.Core.Path.{_≡_, sym, ap, subst, _∙_}
 use mathlib.Core.Bool.{Bool, true, false}
 use mathlib.Core.List.{List, [], _∷_, _++_, append-assoc, append-nil}
 use mathlib.Core.Logic.{dite}
 use native.Mathlib.Decide.{decLt}
-use Prim.Native.Nat.{ℕ, zero, suc, _+_, _-_, _≤_, _<_}
+use Prim.Native.Nat.{ℕ, suc, _+_, _-_, _≤_, _<_}
 use native.Mathlib.Omega.{arith}
 use lib.ListN.{length, getD, take, drop, length-drop}
-use lib.Seq.{take-add, drop-cons, take-length, drop-drop}
-use Rattle.form.specs.Breaks.{Begins, Longest}
+use lib.Seq.{take-add, drop-cons, take-length}
+use Rattle.form.specs.Breaks.{Begins}
 use Rattle.form.specs.Walk.{Ends, Stops}
 
 -- a longer beginning, from byte a on

@@ -3,7 +3,7 @@ use mathlib.Core.Path.{_≡_}
 use mathlib.Core.List.{List, [], _∷_, _++_}
 use Prim.Native.Nat.{ℕ, _*_, _<_}
 use lib.ListN.{length, getD}
-use Rattle.text.specs.Forms.{decimal, spaced}
+use Rattle.text.specs.Forms.{decimal}
 
 -- ---- the lines
 

@@ -1,6 +1,6 @@
 -- The walks over the lines of the nets, one line more at a time.
 -- Assumes nothing.
-use mathlib.Core.Path.{_≡_, refl, sym, ap, _∙_}
+use mathlib.Core.Path.{_≡_, sym, ap, _∙_}
 use mathlib.Core.List.{List, [], _∷_, _++_}
 use Prim.Native.Nat.{ℕ, suc, _+_, _-_, _*_, _≤_, _<_}
 use native.Mathlib.Omega.{arith}
@@ -17,7 +17,7 @@ use Rattle.job.proofs.Nets.{nets-none, nets-pass, nets-stop}
 use Rattle.job_writer.specs.Write.{firstOf, secondOf, writtenLength, headOf, jobOf}
 use Rattle.form.specs.declared.NetRead.{NetRead}
 use Rattle.form.specs.declared.HeadRead.{HeadRead}
-use Rattle.form.specs.Form.{netsText, EndsOf}
+use Rattle.form.specs.Form.{netsText}
 use Rattle.form.specs.Walk.{NetAt}
 use Rattle.form.proofs.ByNumber.{line-at}
 use Rattle.text_reader.specs.ReadText.{OfEnds}

@@ -1,9 +1,9 @@
 -- `text_reader::check_lines` meets its contract.
 use borrow.Author.Needs.{needs}
-use mathlib.Core.Path.{_≡_, refl, sym, _∙_}
+use mathlib.Core.Path.{sym, _∙_}
 use Prim.Native.Nat.{_-_, _≤_}
 use native.Mathlib.Omega.{arith}
-use lib.ListN.{length, length-drop}
+use lib.ListN.{length}
 use Rattle.text_reader.proofs.Walking.{Checked, line-here, past-line, none-checked, one-checked, one-refused, all-checked}
 use Rattle.text_reader.proofs.check_lines.Statement.{statement}
 use Rattle.text_reader.proofs.check_lines.Tie as tie

@@ -1,6 +1,6 @@
 -- `text_reader::read_whole` meets its contract.
 use borrow.Author.Needs.{needs}
-use mathlib.Core.Path.{_≡_, refl, sym, ap, _∙_}
+use mathlib.Core.Path.{refl, sym, ap, _∙_}
 use Rattle.words.specs.declared.Written.the-variants.{Long}
 use Rattle.words.proofs.Bytes.{lent-to-end}
 use Rattle.text_reader.proofs.Stages.{read-room}

@@ -5,7 +5,7 @@ use Prim.Native.Nat.{_*_, _-_, _≤_}
 use native.Mathlib.Omega.{arith}
 use lib.ListN.{length, drop}
 use Rattle.job.specs.Job.{netsIn}
-use Rattle.text.specs.Text.{Text, upTo, puts}
+use Rattle.text.specs.Text.{upTo, puts}
 use Rattle.text.proofs.Putting.{puts-none}
 use Rattle.form.specs.Form.{netsText}
 use Rattle.text_writer.proofs.Long.{lines-of, lines-none}

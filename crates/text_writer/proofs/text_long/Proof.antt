@@ -1,10 +1,6 @@
 -- `text_writer::text_long` meets its contract.
 use borrow.Author.Needs.{needs}
-use mathlib.Core.Path.{ap}
-use mathlib.Core.List.{List}
 use native.Mathlib.Omega.{arith}
-use lib.ListN.{length, length-append}
-use Prim.Native.Nat.{ℕ}
 use Rattle.text_writer.proofs.Long.{text-long}
 use Rattle.text_writer.proofs.text_long.Statement.{statement}
 use Rattle.text_writer.proofs.text_long.Tie as tie

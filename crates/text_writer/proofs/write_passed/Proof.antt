@@ -1,7 +1,6 @@
 -- `text_writer::write_passed` meets its contract.
 use borrow.Author.Needs.{needs}
-use mathlib.Core.Path.{_≡_, refl, sym}
-use native.Mathlib.Omega.{arith}
+use mathlib.Core.Path.{refl}
 use borrow.Author.Tests.{lt-ltb, le-ltb}
 use Rattle.words.proofs.Order.{passes, refuses}
 use Rattle.text_writer.proofs.Long.{text-is}

@@ -1,7 +1,7 @@
 -- `form::nets::nets` meets its contract.
 use borrow.Author.Needs.{needs}
 use borrow.Author.Tests.{not-true, not-false}
-use mathlib.Core.Path.{subst, ap, _≡_}
+use mathlib.Core.Path.{subst, _≡_}
 use mathlib.Core.List.{List}
 use Prim.Native.Nat.{ℕ}
 use native.Mathlib.Omega.{arith}

@@ -1,8 +1,7 @@
 -- `form::number::digit_fits` meets its contract.
 use borrow.Author.Needs.{needs}
 use borrow.Author.Tests.{not-true, not-false}
-use mathlib.Core.Path.{sym, ap, _∙_}
-use lib.Dec.{leb}
+use mathlib.Core.Path.{sym, _∙_}
 use Rattle.form.proofs.Numbers.{fits-none, fits-any, fits-zero, fits-more, digit-says}
 use Rattle.form.proofs.number.digit_fits.Statement.{statement}
 use Rattle.form.proofs.number.digit_fits.Tie as tie
