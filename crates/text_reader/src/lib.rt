@@ -2,7 +2,6 @@
 ghost use mathlib.Core.Path.{_≡_};
 ghost use Prim.Native.Nat.{_≤_, _<_};
 ghost use lib.ListN.{length, drop};
-ghost use Rattle.words.specs.Verdict.{writtenBy};
 ghost use Rattle.words.specs.Lent.{onto, roomAfter};
 ghost use Rattle.job.specs.Job.{headLong};
 ghost use Rattle.job.specs.Check.{netsVerdict};
@@ -23,6 +22,7 @@ use words::Place;
 use words::Verdict;
 use words::Written;
 use words::refuse;
+use words::written_by;
 
 // Refusals 9, 27 and 10 for the lines of n nets, in order.
 fn check_lines(lines: &[u8], f: usize, n: usize) -> Verdict
@@ -88,19 +88,19 @@ fn put_values(lines: &[u8], head: HeadRead, room: &mut [u8])
 }
 
 // The job of a text of the form to the front of the room, unless it is refused.
-fn read_whole(text: &[u8], head: HeadRead, room: &mut [u8]) -> Written
+fn read_whole(text: &[u8], head: HeadRead, room: &mut [u8]) -> Verdict
     requires { ⌜ WholeAt (now text) head ⌝ }
     ensures { λ r. ⌜ OfEnds (head .n) (drop (head .start) (now (text .entry)))
-        (λ ends. (r ≡ writtenBy (readVerdict (head .f) (head .c) (head .m) (head .n) ends (length (now (room .entry)))) (writtenLength (head .n)))
-        × (now (room .exit) ≡ roomAfter (readVerdict (head .f) (head .c) (head .m) (head .n) ends (length (now (room .entry)))) (jobOf (head .f) (head .c) (head .m) (head .n) ends) (now (room .entry)))) ⌝ }
+        (λ ends. (r ≡ readVerdict (head .f) (head .c) (head .m) (head .n) ends (length (now (room .entry))))
+        × (now (room .exit) ≡ roomAfter r (jobOf (head .f) (head .c) (head .m) (head .n) ends) (now (room .entry)))) ⌝ }
 {
     let verdict = check_values(text, head, room.len());
-    if let Verdict::Refused(r) = verdict {
-        return Written::Refused(r);
+    if let Verdict::Refused(_) = verdict {
+        return verdict;
     }
     let start = head.start;
     put_values(&text[start..], head, room);
-    Written::Long(written_length(head.n))
+    verdict
 }
 
 // The job of a text to the front of the room.
@@ -110,6 +110,6 @@ pub fn read_text(text: &[u8], room: &mut [u8]) -> Written
     let formed = check_form(text);
     match formed {
         Formed::Broken(r) => Written::Refused(r),
-        Formed::Whole(head) => read_whole(text, head, room),
+        Formed::Whole(head) => written_by(read_whole(text, head, room), written_length(head.n)),
     }
 }

@@ -20,8 +20,10 @@ use text::digits;
 use text::digits_long;
 use text::word;
 use words::Place;
-use words::Refusal;
+use words::Verdict;
 use words::Written;
+use words::refuse;
+use words::written_by;
 
 // The letters of `board 3` and `nets`, the space between `nets` and its number, and the five ends of line.
 const HEAD_LETTERS: usize = 17;
@@ -102,22 +104,27 @@ fn put_nets(room: &mut [u8], at: usize, job: &[u8], head: Head) -> usize
 
 // ---- the call
 
-// The text of a job that passed the check, if there is room for it.
-fn write_passed(job: &[u8], head: Head, room: &mut [u8]) -> Written
-    requires { ⌜ WellFormed (now job) head ⌝ }
-    ensures { λ r. ⌜ r ≡ writtenBy (tooShort (length (now (room .entry))) (length (textIn (now (job .entry))))) (length (textIn (now (job .entry)))) ⌝ }
-    ensures { λ r. ⌜ now (room .exit) ≡ roomAfter (tooShort (length (now (room .entry))) (length (textIn (now (job .entry))))) (textIn (now (job .entry))) (now (room .entry)) ⌝ }
+fn check_room(room_length: usize, long: usize) -> Verdict
+    ensures { λ r. ⌜ r ≡ tooShort «room_length» long ⌝ }
 {
-    let long = text_long(job, head);
-    if room.len() < long {
-        return Written::Refused(Refusal {
-            number: 11,
-            place: Place::Nowhere,
-        });
+    if room_length < long {
+        return refuse(11, Place::Nowhere);
+    }
+    Verdict::Done
+}
+
+// The text of a job that passed the check, unless there is too little room for it.
+fn write_passed(job: &[u8], head: Head, long: usize, room: &mut [u8]) -> Verdict
+    requires { ⌜ (WellFormed (now job) head) × (long ≡ length (textIn (now job))) ⌝ }
+    ensures { λ r. ⌜ (r ≡ tooShort (length (now (room .entry))) long) × (now (room .exit) ≡ roomAfter r (textIn (now (job .entry))) (now (room .entry))) ⌝ }
+{
+    let verdict = check_room(room.len(), long);
+    if let Verdict::Refused(_) = verdict {
+        return verdict;
     }
     let at = put_head(room, head);
     put_nets(room, at, job, head);
-    Written::Long(long)
+    verdict
 }
 
 // The text of a job to the front of the room.
@@ -128,6 +135,9 @@ pub fn write_text(job: &[u8], room: &mut [u8]) -> Written
     let checked = check_job(job);
     match checked {
         Checked::Refused(r) => Written::Refused(r),
-        Checked::Passed(head) => write_passed(job, head, room),
+        Checked::Passed(head) => {
+            let long = text_long(job, head);
+            written_by(write_passed(job, head, long, room), long)
+        }
     }
 }
