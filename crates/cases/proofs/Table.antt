@@ -1,4 +1,4 @@
--- The theorem: every row of the table holds, by evaluation of the definitions.
+-- The theorem: every row of the table holds, by evaluation of the definitions; of a text by the laws of its form.
 -- Assumes nothing.
 use mathlib.Core.Path.{refl}
 use Prim.Native.Nat.{ℕ}
@@ -34,6 +34,7 @@ use Rattle.audit.specs.Audit.{
 use Rattle.cases.specs.Table.{table, rowsOf}
 use Rattle.cases.specs.Holds.{Holds, AllHold}
 use Rattle.cases.proofs.Each.{each-picked}
+use Rattle.cases.proofs.Texts.{case-two, board-four, leading-zero, too-large, carriage-return, too-many, no-line, two-spaces, no-newline, one-line-more}
 
 -- one row and the rest
 infixr 5 _and_
@@ -75,6 +76,16 @@ table-holds =
     and (refl, refl, refl)
     and (refl, refl, refl)
     and (refl, refl, refl)
+    and case-two
+    and board-four
+    and leading-zero
+    and too-large
+    and carriage-return
+    and too-many
+    and no-line
+    and two-spaces
+    and no-newline
+    and one-line-more
     and tt
 
 -- so the rows of each case do

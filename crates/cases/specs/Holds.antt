@@ -8,7 +8,8 @@ use lib.ListN.{length, replicate}
 use Rattle.laws.specs.Row.{at, row}
 use Rattle.words.specs.declared.Verdict.{Verdict}
 use Rattle.words.specs.declared.Verdict.the-variants.{Done}
-use Rattle.words.specs.Verdict.{numberOf, pOf, qOf}
+use Rattle.words.specs.declared.Written.the-variants.{Long}
+use Rattle.words.specs.Verdict.{refuse, atLine, numberOf, pOf, qOf}
 use Rattle.job.specs.Job.{nIn, jobIn}
 use Rattle.board.specs.Netlist.{Netlist}
 use Rattle.board.specs.Board.{degree, limit, load, total, totalExcess, Legal}
@@ -16,10 +17,13 @@ use Rattle.scratch.specs.Scratch.{scratchLong}
 use Rattle.refusals.specs.Start.{planVerdict, roundVerdict}
 use Rattle.sheet.specs.Sheet.{sheetOf}
 use Rattle.audit.specs.Audit.{auditVerdict, writeSheetVerdict}
+use Rattle.form.specs.Breaks.{BreaksAs}
+use Rattle.text_writer.specs.WriteText.{textIn, writeTextVerdict}
+use Rattle.text_reader.specs.ReadText.{ReadText}
 use Rattle.cases.specs.Each.{Each, Some, picked, ways}
 use Rattle.cases.specs.Rounds.{allowed, possible}
 use Rattle.cases.specs.Table.{Stop, Row, dealOf}
-use Rattle.cases.specs.Table.Row.{accepted, refused, sheet, full, legal, excess, loadAt, oneRound, results, always, rounds}
+use Rattle.cases.specs.Table.Row.{accepted, refused, sheet, full, legal, excess, loadAt, oneRound, results, always, rounds, text, broken}
 
 -- plan's verdict, with room for n nets and the least scratch
 abbrev pub verdictOn : List ℕ → Verdict
@@ -77,6 +81,8 @@ Holds (rounds job stops) =
     NotRefused job (firstPlan stops)
     × Each (λ s. (excessOf J (s .plan) ≡ s .excess) × (totalsOf J (s .plan) ≡ s .totals)) stops
     × Linked J stops
+Holds (text job t) = (writeTextVerdict job (length t) ≡ Done) × (textIn job ≡ t) × ReadText t (replicate (length job) 0) job (Long (length job))
+Holds (broken t number p q) = BreaksAs t (refuse number (atLine p q))
 
 -- each of these rows holds
 abbrev pub AllHold : List (ℕ × Row) → Type 0

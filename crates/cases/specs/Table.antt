@@ -8,6 +8,7 @@ use Rattle.words.specs.Number.{bytes}
 use Rattle.job_writer.specs.Write.{jobOf}
 use Rattle.job.specs.Job.{jobIn, wiredIn}
 use Rattle.board.specs.Netlist.{Netlist}
+use Rattle.text.specs.Letters.{letters}
 use Rattle.finish.specs.Plan.{dealt}
 use Rattle.cases.specs.Each.{picked}
 
@@ -42,6 +43,10 @@ pub data Row : Type 0 where
   always : (job start : List ℕ) (v : ℕ) (loads totals : List ℕ) → Row
   -- the start and what each round leaves, up to a legal assignment
   rounds : (job : List ℕ) (stops : List Stop) → Row
+  -- the job has this text, and the text is read as the job
+  text : (job t : List ℕ) → Row
+  -- the text is refused with this number, at byte q of line p
+  broken : (t : List ℕ) (number p q : ℕ) → Row
 
 -- ---- the jobs, and what is said of them
 
@@ -138,6 +143,16 @@ table =
     ∷ (request 2, refused (board 5 1 2 ((0, 1) ∷ (5, 4) ∷ [])) 9 1 14)
     ∷ (request 2, refused (board 5 1 2 ((0, 1) ∷ (4, 5) ∷ [])) 27 1 16)
     ∷ (request 2, refused (board 5 1 2 ((0, 1) ∷ (4, 4) ∷ [])) 10 1 16)
+    ∷ (request 3, text (board 3 2 2 ((0, 1) ∷ (1, 2) ∷ (2, 0) ∷ (0, 1) ∷ [])) (letters "board 3\n3\n2\n2\nnets 4\n0 1\n1 2\n2 0\n0 1\n"))
+    ∷ (request 3, broken (letters "board 4\n") 31 1 6)
+    ∷ (request 3, broken (letters "board 3\n01\n") 31 2 1)
+    ∷ (request 3, broken (letters "board 3\n65536\n") 31 2 4)
+    ∷ (request 3, broken (letters "board 3\n2\n1\n2\r\n") 31 4 1)
+    ∷ (request 3, broken (letters "board 3\n2\n1\n2\nnets 65536\n") 31 5 9)
+    ∷ (request 3, broken (letters "board 3\n2\n1\n2\nnets 1\n") 31 6 0)
+    ∷ (request 3, broken (letters "board 3\n2\n1\n2\nnets 1\n0  1\n") 31 6 2)
+    ∷ (request 3, broken (letters "board 3\n2\n1\n2\nnets 1\n0 1") 31 6 3)
+    ∷ (request 3, broken (letters "board 3\n2\n1\n2\nnets 1\n0 1\n\n") 32 7 0)
     ∷ []
 
 -- the rows of one case

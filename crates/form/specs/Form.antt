@@ -3,6 +3,7 @@ use mathlib.Core.Path.{_≡_}
 use mathlib.Core.List.{List, [], _∷_, _++_}
 use Prim.Native.Nat.{ℕ, _*_, _<_}
 use lib.ListN.{length, getD}
+use Rattle.text.specs.Letters.{letters}
 use Rattle.text.specs.Forms.{decimal}
 
 -- ---- the lines
@@ -14,13 +15,11 @@ newline = 10
 abbrev pub space : ℕ
 space = 32
 
--- "board 3" and the end of its line
 abbrev pub boardLine : List ℕ
-boardLine = 98 ∷ 111 ∷ 97 ∷ 114 ∷ 100 ∷ space ∷ 51 ∷ newline ∷ []
+boardLine = letters "board 3\n"
 
--- "nets" and a space
 abbrev pub netsWord : List ℕ
-netsWord = 110 ∷ 101 ∷ 116 ∷ 115 ∷ space ∷ []
+netsWord = letters "nets "
 
 -- a number, and the byte behind it
 unfoldable pub numberThen : ℕ → ℕ → List ℕ

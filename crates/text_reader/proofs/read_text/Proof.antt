@@ -1,8 +1,6 @@
 -- `text_reader::read_text` meets its contract.
 use borrow.Author.Needs.{needs}
-use mathlib.Core.Path.{refl, subst, sym, ap, _∙_}
-use Rattle.words.specs.declared.Verdict.{Verdict}
-use Rattle.words.specs.Verdict.{writtenBy}
+use mathlib.Core.Path.{refl, subst}
 use Rattle.form.specs.declared.Formed.{Formed}
 use Rattle.form.specs.Walk.{FormedBy}
 use Rattle.form.proofs.Whole.{whole-in-form, whole-is}

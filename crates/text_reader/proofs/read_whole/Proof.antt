@@ -1,6 +1,6 @@
 -- `text_reader::read_whole` meets its contract.
 use borrow.Author.Needs.{needs}
-use mathlib.Core.Path.{refl, sym, _∙_}
+use mathlib.Core.Path.{sym, _∙_}
 use Rattle.words.proofs.Bytes.{lent-to-end}
 use Rattle.text_reader.proofs.Stages.{read-room}
 use Rattle.text_reader.proofs.read_whole.Statement.{statement}

@@ -1,6 +1,6 @@
 -- `text_writer::write_text` meets its contract.
 use borrow.Author.Needs.{needs}
-use mathlib.Core.Path.{refl, ap, sym, _∙_}
+use mathlib.Core.Path.{refl}
 use Rattle.job.proofs.Passing.{check-refused, check-done, check-passed}
 use Rattle.text_writer.proofs.Stages.{job-refused, job-done}
 use Rattle.text_writer.proofs.write_text.Statement.{statement}
