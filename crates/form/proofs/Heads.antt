@@ -167,44 +167,26 @@ module _ (L : List ℕ → Type 0) (t : List ℕ) (a : ℕ) (M : ℕ → List �
 
 -- ---- the walk over the board
 
+board-stops : (t : List ℕ) (k : ℕ) → Stops IsText t k false → BoardAt t (breaksAt k)
+board-stops t k stops = record { within = stops .longest .within; f-small = omega arith; c-small = omega arith; m-small = omega arith; by = stops }
+
 module _ (t : List ℕ) (a : ℕ) (at : WordAt boardLine t a) where
   pub board-breaks : a < 8 → BoardAt t (breaksAt a)
-  board-breaks h =
-      record {
-        within = at .within .1;
-        f-small = omega arith;
-        c-small = omega arith;
-        m-small = omega arith;
-        by = stops-as IsText Board t a false board-forth board-back (word-breaks boardLine First t a at h some-first);
-      }
+  board-breaks h = board-stops t a (stops-as IsText Board t a false board-forth board-back (word-breaks boardLine First t a at h some-first))
 
   module _ (h : 8 ≤ a) (f : NumberRead) (at-f : NumberAt newline (drop a t) f) where
     at-first : From IsText t a First
     at-first = from-as IsText Board First t a board-forth board-back (word-from boardLine First t a at h)
 
     pub f-breaks : f .whole ≡ false → BoardAt t (breaksAt (a + f .long))
-    f-breaks e =
-        record {
-          within = past-within IsText t a _ f at-first at-f;
-          f-small = omega arith;
-          c-small = omega arith;
-          m-small = omega arith;
-          by = number-stops IsText t a _ f at-first at-f (λ _ _. some-second) e;
-        }
+    f-breaks e = board-stops t _ (number-stops IsText t a _ f at-first at-f (λ _ _. some-second) e)
 
     module _ (whole-f : f .whole ≡ true) (c : NumberRead) (at-c : NumberAt newline (drop (a + f .long) t) c) where
       at-second : From IsText t (a + f .long) Second
       at-second = number-goes IsText t a _ f at-first at-f whole-f
 
       pub c-breaks : c .whole ≡ false → BoardAt t (breaksAt (a + f .long + c .long))
-      c-breaks e =
-          record {
-            within = past-within IsText t _ _ c at-second at-c;
-            f-small = omega arith;
-            c-small = omega arith;
-            m-small = omega arith;
-            by = number-stops IsText t _ _ c at-second at-c (λ _ _. some-third) e;
-          }
+      c-breaks e = board-stops t _ (number-stops IsText t _ _ c at-second at-c (λ _ _. some-third) e)
 
       module _ (whole-c : c .whole ≡ true) (m : NumberRead) (at-m : NumberAt newline (drop (a + f .long + c .long) t) m) where
         at-third : From IsText t (a + f .long + c .long) Third
