@@ -45,15 +45,15 @@ module _ (L : List ℕ → Type 0) (t : List ℕ) where
 
 module _ (t : List ℕ) where
   pub text-unbroken : (v : Verdict) → IsText t → BreaksAs t v → ⊥
-  text-unbroken v whole (BreaksAs.short k longest none e) =
+  text-unbroken v whole (BreaksAs.breaks k longest none e) =
       none (subst IsText (sym (ap (λ (j : ℕ). take j t) (longest-all IsText t k whole longest) ∙ take-length t)) whole)
-  text-unbroken v whole (BreaksAs.beyond k longest is l e) = absurd (omega (arith, longest-all IsText t k whole longest))
+  text-unbroken v whole (BreaksAs.follows k longest is l e) = absurd (omega (arith, longest-all IsText t k whole longest))
 
   pub breaks-once : (v w : Verdict) → BreaksAs t v → BreaksAs t w → v ≡ w
-  breaks-once v w (BreaksAs.short j p none e) (BreaksAs.short k q none′ e′) = e ∙ ap (λ (i : ℕ). refuse 31 (placeBehind (take i t))) (longest-once IsText t j k p q) ∙ sym e′
-  breaks-once v w (BreaksAs.short j p none e) (BreaksAs.beyond k q is l e′) = absurd (none (subst (λ (i : ℕ). IsText (take i t)) (longest-once IsText t k j q p) is))
-  breaks-once v w (BreaksAs.beyond j p is l e) (BreaksAs.short k q none e′) = absurd (none (subst (λ (i : ℕ). IsText (take i t)) (longest-once IsText t j k p q) is))
-  breaks-once v w (BreaksAs.beyond j p is l e) (BreaksAs.beyond k q is′ l′ e′) = e ∙ ap (λ (i : ℕ). refuse 32 (placeBehind (take i t))) (longest-once IsText t j k p q) ∙ sym e′
+  breaks-once v w (BreaksAs.breaks j p none e) (BreaksAs.breaks k q none′ e′) = e ∙ ap (λ (i : ℕ). refuse 31 (placeBehind (take i t))) (longest-once IsText t j k p q) ∙ sym e′
+  breaks-once v w (BreaksAs.breaks j p none e) (BreaksAs.follows k q is l e′) = absurd (none (subst (λ (i : ℕ). IsText (take i t)) (longest-once IsText t k j q p) is))
+  breaks-once v w (BreaksAs.follows j p is l e) (BreaksAs.breaks k q none e′) = absurd (none (subst (λ (i : ℕ). IsText (take i t)) (longest-once IsText t j k p q) is))
+  breaks-once v w (BreaksAs.follows j p is l e) (BreaksAs.follows k q is′ l′ e′) = e ∙ ap (λ (i : ℕ). refuse 32 (placeBehind (take i t))) (longest-once IsText t j k p q) ∙ sym e′
 
 -- ---- a text that is too long for the form breaks where its first 786,458 bytes break
 
@@ -75,10 +75,10 @@ module _ (t : List ℕ) (long : 786457 < length t) where
       }
 
   pub cut-breaks : (v : Verdict) → BreaksAs t v → BreaksAs (take 786458 t) v
-  cut-breaks v (BreaksAs.short k p none e) =
+  cut-breaks v (BreaksAs.breaks k p none e) =
       let same = cut k (omega (arith, begins-most k t (p .within) (p .begins))) in
-      BreaksAs.short k (cut-longest k p) (λ is. none (subst IsText same is)) (e ∙ ap (λ (s : List ℕ). refuse 31 (placeBehind s)) (sym same))
-  cut-breaks v (BreaksAs.beyond k p is l e) =
+      BreaksAs.breaks k (cut-longest k p) (λ is. none (subst IsText same is)) (e ∙ ap (λ (s : List ℕ). refuse 31 (placeBehind s)) (sym same))
+  cut-breaks v (BreaksAs.follows k p is l e) =
       let most = begins-most k t (p .within) (p .begins) in
       let same = cut k (omega (arith, most)) in
-      BreaksAs.beyond k (cut-longest k p) (subst IsText (sym same) is) (omega (arith, most, length-take-le 786458 t (omega arith))) (e ∙ ap (λ (s : List ℕ). refuse 32 (placeBehind s)) (sym same))
+      BreaksAs.follows k (cut-longest k p) (subst IsText (sym same) is) (omega (arith, most, length-take-le 786458 t (omega arith))) (e ∙ ap (λ (s : List ℕ). refuse 32 (placeBehind s)) (sym same))

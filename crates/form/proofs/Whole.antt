@@ -75,10 +75,10 @@ rest-stops t a n k at = rw (lent-to-end t a) at at
 
 module _ (t : List ℕ) where
   stops-short : (k : ℕ) → Stops IsText t k false → FormedBy (brokenOf 31 t k) t
-  stops-short k s = BreaksAs.short k (s .longest) (s .ends) refl
+  stops-short k s = BreaksAs.breaks k (s .longest) (s .ends) refl
 
   stops-beyond : (k : ℕ) → Stops IsText t k true → k < length t → FormedBy (brokenOf 32 t k) t
-  stops-beyond k s h = BreaksAs.beyond k (s .longest) (s .ends) h refl
+  stops-beyond k s h = BreaksAs.follows k (s .longest) (s .ends) h refl
 
   module _ (b : BoardRead) (at-b : BoardAt t b) where
     pub in-board : b .whole ≡ false → FormedBy (brokenOf 31 t (b .long)) t

@@ -42,5 +42,5 @@ placeBehind s = atLine (lineFrom 1 s) (byteFrom 0 s)
 
 -- 31: the longest beginning of t is no whole text; 32: it is one, and more follows
 pub data BreaksAs (t : List ℕ) (v : Verdict) : Type 0 where
-  short : (k : ℕ) → Longest IsText t k → (IsText (take k t) → ⊥) → v ≡ refuse 31 (placeBehind (take k t)) → BreaksAs t v
-  beyond : (k : ℕ) → Longest IsText t k → IsText (take k t) → k < length t → v ≡ refuse 32 (placeBehind (take k t)) → BreaksAs t v
+  breaks : (k : ℕ) → Longest IsText t k → (IsText (take k t) → ⊥) → v ≡ refuse 31 (placeBehind (take k t)) → BreaksAs t v
+  follows : (k : ℕ) → Longest IsText t k → IsText (take k t) → k < length t → v ≡ refuse 32 (placeBehind (take k t)) → BreaksAs t v

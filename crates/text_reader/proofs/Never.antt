@@ -41,8 +41,8 @@ values-never f c m n ends room =
     always-then _ _ (ranges-never f c m n) (λ _. always-then _ _ (always-first _ n (λ i _. net-never f _ i _ _)) (λ _. always-if _ 11 _ (λ _. refl)))
 
 breaks-never : (t : List ℕ) (v : Verdict) → BreaksAs t v → Always Never v
-breaks-never t v (BreaksAs.short k longest none e) = subst (Always Never) (sym e) (record { holds = refl })
-breaks-never t v (BreaksAs.beyond k longest is l e) = subst (Always Never) (sym e) (record { holds = refl })
+breaks-never t v (BreaksAs.breaks k longest none e) = subst (Always Never) (sym e) (record { holds = refl })
+breaks-never t v (BreaksAs.follows k longest is l e) = subst (Always Never) (sym e) (record { holds = refl })
 
 by-written : (v : Verdict) (q : Refusal) (long : ℕ) → written.Refused q ≡ writtenBy v long → Always Never v → Never q
 by-written Done q long e h = let z : _≡_ {A = ℕ} 0 1 = cc in absurd (omega arith)

@@ -45,8 +45,8 @@ by-long Done k long e = (refl, cc)
 by-long (Refused r) k long e = let z : _≡_ {A = ℕ} 0 1 = cc in absurd (omega arith)
 
 breaks-refused : (t : List ℕ) (v : Verdict) (k long : ℕ) → BreaksAs t v → written.Long k ≡ writtenBy v long → ⊥
-breaks-refused t v k long (BreaksAs.short j p none e) h = let z : _≡_ {A = ℕ} 0 1 = cc in absurd (omega arith)
-breaks-refused t v k long (BreaksAs.beyond j p is l e) h = let z : _≡_ {A = ℕ} 0 1 = cc in absurd (omega arith)
+breaks-refused t v k long (BreaksAs.breaks j p none e) h = let z : _≡_ {A = ℕ} 0 1 = cc in absurd (omega arith)
+breaks-refused t v k long (BreaksAs.follows j p is l e) h = let z : _≡_ {A = ℕ} 0 1 = cc in absurd (omega arith)
 
 -- a job that was read passes the check, as the writer's does
 module _ (f c m n : ℕ) (ends : List ℕ) (room : ℕ) (of : EndsOf n ends) (done : readVerdict f c m n ends room ≡ Done) where
