@@ -1,4 +1,6 @@
 // The bytes at fault.
+#![tactic(auto)]
+
 ghost use Rattle.std.specs.Prelude.{◌≡◌, cond, ◌+◌, ◌≤◌, length};
 ghost use Rattle.words.specs.Lent.{Stretch};
 ghost use Rattle.job.specs.Check.{WellFormed};
@@ -13,7 +15,7 @@ use words::number::wide;
 use words::{Place, Refusal, Verdict};
 
 // A stretch of the job or of the sheet.
-#[derive(Drop)]
+#[derive(Clone, Copy)]
 pub struct Fault {
     // In the sheet; else in the job.
     pub sheet: bool,

@@ -1,4 +1,6 @@
 // Finish and plan: rounds until the assignment is legal.
+#![tactic(auto)]
+
 pub mod calls;
 pub mod deal;
 pub mod rounds;
@@ -6,7 +8,7 @@ pub mod rounds;
 use words::Refusal;
 
 // How many rounds were made, and the excess before the first; or the call is refused.
-#[derive(Drop)]
+#[derive(Clone, Copy)]
 pub enum Finish {
     Done(usize, usize),
     Refused(Refusal),

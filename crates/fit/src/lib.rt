@@ -1,4 +1,6 @@
 // An assignment that is fit for a sheet, as the audit and the sheet writer both check it: 13 or 23, then 24 and 25.
+#![tactic(auto)]
+
 ghost use Rattle.std.specs.Prelude.{◌≡◌, ◌≤◌, length};
 ghost use Rattle.laws.specs.Row.{at};
 ghost use Rattle.laws.specs.Count.{Counted};

@@ -1,4 +1,6 @@
 // All calls in one place. Each is proved in the crate of its layer; c.rt has their C form.
+#![tactic(auto)]
+
 ghost use Rattle.std.specs.Prelude.{◌≡◌};
 ghost use Rattle.words.specs.Verdict.{p_of, q_of};
 ghost use Rattle.job.specs.Check.{job_verdict};

@@ -1,4 +1,6 @@
 // The job file: what stands where, its check, and what it says. No other crate knows a byte of it.
+#![tactic(auto)]
+
 pub mod read;
 pub mod well_formed;
 
@@ -14,7 +16,7 @@ pub(crate) const N_AT: usize = 8;
 pub(crate) const HEAD_LONG: usize = 10;
 
 // The numbers of a job's head, m as written and the usable width; and the byte where its nets start.
-#[derive(Drop)]
+#[derive(Clone, Copy)]
 pub struct Head {
     pub f: usize,
     pub c: usize,
@@ -25,14 +27,14 @@ pub struct Head {
 }
 
 // The job check's answer.
-#[derive(Drop)]
+#[derive(Clone, Copy)]
 pub enum Checked {
     Passed(Head),
     Refused(words::Refusal),
 }
 
 // What stands at a net's number.
-#[derive(Drop)]
+#[derive(Clone, Copy)]
 pub enum NetEnds {
     Ends(words::Fpga, words::Fpga),
     NoNet,

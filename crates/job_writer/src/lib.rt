@@ -1,4 +1,6 @@
 // The job writer.
+#![tactic(auto)]
+
 ghost use Rattle.std.specs.Prelude.{◌≡◌, ◌+◌, ◌*◌, ◌≤◌, ◌<◌, [], ◌∷◌, ◌++◌, length, take, drop};
 ghost use Rattle.words.specs.Verdict.{written_by};
 ghost use Rattle.words.specs.Number.{bytes};

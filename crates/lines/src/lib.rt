@@ -1,4 +1,6 @@
 // The lines of a listing, formed in lent memory: each is put where the text so far ends.
+#![tactic(auto)]
+
 ghost use Rattle.std.specs.Prelude.{◌≡◌, [], ◌∷◌, ◌≤◌, ◌<◌, length};
 ghost use Rattle.laws.specs.Row as row;
 ghost use Rattle.job.specs.Job.{first_in, second_in, job_in};

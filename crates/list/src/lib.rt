@@ -1,4 +1,6 @@
 // The listing of a plan, formed in lent memory.
+#![tactic(auto)]
+
 ghost use Rattle.std.specs.Prelude.{◌≡◌, ℕ, ◌≤◌, ◌<◌, length};
 ghost use Rattle.laws.specs.Row as row;
 ghost use Rattle.job.specs.Check.{WellFormed};

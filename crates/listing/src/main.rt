@@ -1,4 +1,6 @@
 // Reads a job from standard input and prints its plan, or why it is refused.
+#![tactic(auto)]
+
 use libc::{STDIN_FILENO, STDOUT_FILENO};
 use list::{LISTING, list, listing_room};
 use text::so_far;

@@ -1,4 +1,6 @@
 // Pairs items, net ends or nets, by the FPGA that each stands at.
+#![tactic(auto)]
+
 ghost use Rattle.std.specs.Prelude.{◌≡◌, ◌<◌, length};
 ghost use Rattle.pair.specs.Pair.{ItemsIn, Pairing};
 ghost use Rattle.pair.specs.Making.{linked, Blank, Placed, LeftWaiting, PairsAll};

@@ -1,4 +1,6 @@
 // A reader that holds the caller's job bytes and the four numbers of its head. Whatever it answers is worked out on the plain slice.
+#![tactic(auto)]
+
 ghost use Rattle.std.specs.Prelude.{◌≡◌};
 ghost use Rattle.job.specs.Check.{checked_of};
 ghost use Rattle.job.specs.Read.{net_at};
@@ -10,7 +12,7 @@ use job::{Checked, NetEnds};
 use words::{Crossbar, Fpga, Net};
 
 // f, c, m and n, each under its sort.
-#[derive(Drop)]
+#[derive(Clone, Copy)]
 pub struct Numbers {
     pub f: Fpga,
     pub c: Crossbar,
@@ -19,7 +21,7 @@ pub struct Numbers {
 }
 
 // The caller's own job, and its numbers.
-#[derive(Drop)]
+#[derive(Clone, Copy)]
 pub struct Reader<'a> {
     pub job: &'a [u8],
     pub f: Fpga,

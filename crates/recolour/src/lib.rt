@@ -7,6 +7,8 @@
 // the nets need no list of their own.
 // `split` wants an even number of nets. Where it is odd, a dummy net is added, both ends at an FPGA that no board has, so that
 // no load counts it. The dummy's label becomes that of y: without the dummy x has one net more than y, as the rule allows.
+#![tactic(auto)]
+
 ghost use Rattle.std.specs.Prelude.{◌≡◌, ◌≤◌, length};
 ghost use Rattle.board.specs.Rule.{on_two_test};
 ghost use Rattle.scratch.specs.Scratch.{most_nets, scratch_long};

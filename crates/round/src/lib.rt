@@ -1,4 +1,6 @@
 // One round.
+#![tactic(auto)]
+
 ghost use Rattle.round.specs.OneRound.{OneRound};
 
 use crate::step::step;
@@ -11,7 +13,7 @@ use words::{Crossbar, Fpga, Refusal};
 pub mod step;
 
 // The assignment was legal; or a round was made, on this FPGA and these two crossbars A and B; or the call is refused.
-#[derive(Drop)]
+#[derive(Clone, Copy)]
 pub enum Round {
     Settled,
     Moved(Fpga, Crossbar, Crossbar),

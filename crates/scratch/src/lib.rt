@@ -1,4 +1,6 @@
 // The lent scratch: where its four regions stand, how one is filled, and how all is zero again in the end.
+#![tactic(auto)]
+
 ghost use Rattle.std.specs.Prelude.{◌≡◌, ◌≤◌, length, replicate};
 ghost use Rattle.scratch.specs.Scratch.{cleared, scratch_long};
 

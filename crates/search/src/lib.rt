@@ -1,4 +1,6 @@
 // The search for what a round recolours: the lowest FPGA with a load above its width, and two crossbars there.
+#![tactic(auto)]
+
 ghost use Rattle.std.specs.Prelude.{◌≡◌, ◌≤◌, ltb, length};
 ghost use Rattle.laws.specs.Row.{at};
 ghost use Rattle.laws.specs.Lowest.{first_where};
@@ -14,7 +16,7 @@ use words::number::wide;
 use words::{Crossbar, Fpga};
 
 // No load is above its width; or an FPGA, its crossbar with too many nets and its crossbar with room.
-#[derive(Drop)]
+#[derive(Clone, Copy)]
 pub enum Found {
     Settled,
     Over(Fpga, Crossbar, Crossbar),

@@ -1,4 +1,6 @@
 // The sheet: what stands where in it, read and written.
+#![tactic(auto)]
+
 ghost use Rattle.std.specs.Prelude.{◌≡◌};
 ghost use Rattle.job.specs.Check.{WellFormed};
 ghost use Rattle.sheet.specs.Sheet.{totals_count_at, totals_at, sheet_length};

@@ -1,4 +1,6 @@
 // The sheet writer and the sheet reader.
+#![tactic(auto)]
+
 ghost use Rattle.std.specs.Prelude.{◌≡◌, ◌≤◌, length};
 ghost use Rattle.laws.specs.Row.{at, row};
 ghost use Rattle.words.specs.Verdict.{too_short, ◌then◌, written_by};

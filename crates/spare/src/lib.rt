@@ -1,4 +1,6 @@
 // How many nets more an FPGA can take, and two of them together.
+#![tactic(auto)]
+
 ghost use Rattle.std.specs.Prelude.{◌≡◌, ◌<◌, min};
 ghost use Rattle.laws.specs.Count.{Counted};
 ghost use Rattle.job.specs.Job.{job_in};
@@ -15,7 +17,7 @@ use words::number::wide;
 use words::{Fpga, Net, Verdict};
 
 // Room for so many nets, or why that is not to be said.
-#[derive(Drop)]
+#[derive(Clone, Copy)]
 pub enum Room {
     Nets(Net),
     Refused(words::Refusal),

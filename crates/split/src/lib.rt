@@ -8,6 +8,8 @@
 //    split what leaves each FPGA, but for one, and what enters it, and all the nets in equal halves.
 // With t leaving and h entering an FPGA, an even t or h is split exactly. For t + h odd one of the two is even, and the
 // loads differ by 1. For t = h they differ by 0 or 2, and by 0 where t is even: so for t + h = 2m, since m is even.
+#![tactic(auto)]
+
 ghost use Rattle.std.specs.Prelude.{◌≡◌, ◌+◌, ◌≤◌, ◌<◌, length};
 ghost use Rattle.scratch.specs.Scratch.{most_nets, scratch_long};
 ghost use Rattle.split.specs.Split.{NetsIn, Halved};

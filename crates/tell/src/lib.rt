@@ -1,4 +1,6 @@
 // How an answer is told in C: a number that is returned, and four numbers in the caller's `answer`.
+#![tactic(auto)]
+
 ghost use Rattle.std.specs.Prelude.{◌≡◌, ◌≤◌};
 ghost use Rattle.job.specs.Read.{section_long};
 ghost use Rattle.tell.specs.InC.{four, verdict_in_c, written_in_c, numbers_in_c, net_in_c, section_in_c, round_in_c, finish_in_c, fault_in_c, room_in_c};

@@ -1,4 +1,6 @@
 // Text formed in lent memory: `at` is where the text so far ends, the answer is where it ends then. What has no room is left out.
+#![tactic(auto)]
+
 ghost use Rattle.std.specs.Prelude.{◌≡◌, [], ◌∷◌, ◌≤◌, length, take};
 ghost use Rattle.text.specs.Text.{up_to, puts};
 ghost use Rattle.text.specs.Forms.{decimal, spaced, all_spaced, line as lineText};

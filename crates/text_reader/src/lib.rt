@@ -1,4 +1,6 @@
 // The text reader: a text to its job. One walk for the form, one for the values, one that writes; a refusal comes before the third.
+#![tactic(auto)]
+
 ghost use Rattle.std.specs.Prelude.{◌≡◌, ◌≤◌, ◌<◌, length, drop};
 ghost use Rattle.words.specs.Lent.{onto, room_after};
 ghost use Rattle.job.specs.Job.{head_long};

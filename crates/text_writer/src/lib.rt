@@ -1,4 +1,6 @@
 // The text writer: a job to its text. How long the text is, is counted before its first byte is written.
+#![tactic(auto)]
+
 ghost use Rattle.std.specs.Prelude.{◌≡◌, ◌++◌, ◌≤◌, length};
 ghost use Rattle.words.specs.Verdict.{too_short, written_by};
 ghost use Rattle.words.specs.Lent.{room_after};

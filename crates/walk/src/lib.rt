@@ -1,5 +1,7 @@
 // Labels the items of two pairings with 0 and 1, so that every item differs from both of its partners.
 // Item, partner in p, that one's partner in q, and so on, is a cycle with an even number of items: the labels just alternate.
+#![tactic(auto)]
+
 ghost use Rattle.std.specs.Prelude.{◌≡◌, ◌+◌, ◌<◌, get_or};
 ghost use Rattle.walk.specs.Walk.{Matched, Alternated};
 ghost use Rattle.walk.specs.Going.{no_label, Standing, Stepping, Passing, Visited};
@@ -11,7 +13,7 @@ use words::number::wide;
 const NO_LABEL: u16 = 2;
 
 // Where the two pairings p and q and the labels x of n items stand in the scratch.
-#[derive(Drop)]
+#[derive(Clone, Copy)]
 pub struct Tracks {
     pub p: usize,
     pub q: usize,

@@ -1,4 +1,6 @@
 // What the board of a job gives: the width and the limit of an FPGA, the crossbars that can be used, and the deal.
+#![tactic(auto)]
+
 ghost use Rattle.std.specs.Prelude.{◌≡◌, ◌≤◌};
 ghost use Rattle.board.specs.Board.{limit, usable, deal};
 ghost use Rattle.job.specs.Job.{job_in};

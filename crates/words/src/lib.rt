@@ -1,23 +1,25 @@
 // The customer's words: three sorts of count, a refusal with its place, and numbers of two bytes.
+#![tactic(auto)]
+
 ghost use Rattle.std.specs.Prelude.{◌≡◌};
 ghost use Rattle.words.specs.Verdict.{refuse, number_of, p_of, q_of, written_by};
 
 pub mod number;
 
 // An FPGA's number, or how many FPGAs there are.
-#[derive(Drop)]
+#[derive(Clone, Copy)]
 pub struct Fpga(pub u16);
 
 // A crossbar's number, or how many crossbars there are.
-#[derive(Drop)]
+#[derive(Clone, Copy)]
 pub struct Crossbar(pub u16);
 
 // A net's number, or how many nets there are.
-#[derive(Drop)]
+#[derive(Clone, Copy)]
 pub struct Net(pub u16);
 
 // What a refusal points at.
-#[derive(Drop)]
+#[derive(Clone, Copy)]
 pub enum Place {
     Byte(usize),
     Net(Net),
@@ -32,20 +34,20 @@ pub enum Place {
     Nowhere,
 }
 
-#[derive(Drop)]
+#[derive(Clone, Copy)]
 pub struct Refusal {
     pub number: u16,
     pub place: Place,
 }
 
-#[derive(Drop)]
+#[derive(Clone, Copy)]
 pub enum Verdict {
     Done,
     Refused(Refusal),
 }
 
 // What a call that writes to lent room answers: how much stands at its front now, bytes of a file or numbers of a list.
-#[derive(Drop)]
+#[derive(Clone, Copy)]
 pub enum Written {
     Long(usize),
     Refused(Refusal),

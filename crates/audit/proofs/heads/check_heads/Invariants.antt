@@ -1,0 +1,17 @@
+-- `audit::heads::check_heads` meets its contract.
+use Rattle.words.specs.declared.Verdict.TheVariants.{Done}
+use Rattle.words.specs.Verdict.{at_byte}
+use Rattle.words.specs.Number.{word}
+use Rattle.words.proofs.Order.{tested, tests_start}
+use Rattle.audit.specs.Audit.{unlike}
+use Rattle.audit.proofs.Parts.{unlike_passes, unlike_stops, count_off, heads_same}
+use native.Mathlib.Omega.{arith}
+use Prim.Native.Nat.{◌≤◌, ◌-◌, ◌*◌, ◌/◌}
+use mathlib.Core.Path.{◌≡◌, ap, sym, ◌∙◌}
+use Rattle.audit.proofs.heads.check_heads.Given as goal
+
+abbrev pub invariant-loop-k : goal.invariant-loop-k
+invariant-loop-k l = (l.k ≤ l.head.start / 2) × (tested (unlike l.job l.sheet) 22 (λ j. at_byte (2 * j)) l.k ≡ Done)
+
+abbrev pub decreases-loop-k : goal.decreases-loop-k
+decreases-loop-k l = l.head.start / 2 - l.k

@@ -1,0 +1,45 @@
+-- `form::number::number` meets its contract.
+use borrow.Author.Tests.{eqb-true, eqb-false, not-true, not-false}
+use mathlib.Core.Path.{refl, sym, ◌∙◌}
+use mathlib.Core.Logic.{inl, ⊎_elim}
+use Prim.Native.Nat.{◌-◌, ◌≤◌, ◌<◌}
+use native.Mathlib.Omega.{arith}
+use lib.ListN.{length}
+use Rattle.form.specs.Walk.{Came}
+use Rattle.form.proofs.Numbers.{digit_next, whole_number}
+use borrow.Author.Rules.{rules}
+use Rattle.form.proofs.number.number.Goals as goal
+
+pub loop-i-init : goal.loop-i-init
+loop-i-init c = (omega arith, omega arith, inl (refl, refl))
+
+pub returns-then-b-after : goal.returns-then-b-after
+returns-then-b-after c = let l = c.loop-i in
+    record { within = omega arith; small = l.invariant.1; by = whole_number _ _ _ _ l.invariant.2 c.loop-i-test.true c.if-i-gt0.true (eqb-true _ _ c.if-b-after.true) }
+
+pub returns-then-not-digit_fits : goal.returns-then-not-digit_fits
+returns-then-not-digit_fits c = let l = c.loop-i in
+    record {
+      within = l.invariant.0;
+      small = l.invariant.1;
+      by = record {
+        came = l.invariant.2;
+        no_digit = λ _. sym c.digit_fits.ensures ∙ not-true _ c.if-not-digit_fits.true;
+        no_after = λ _ positive e. ⊎_elim (λ p. eqb-false _ _ p.1.left e) (λ p. absurd (omega (arith, p.left))) c.else-i-gt0.branch;
+      };
+    }
+
+pub digit_value-requires : goal.digit_value-requires
+digit_value-requires c = (digit_next _ c.loop-i.value c.loop-i.i c.loop-i-test.true c.loop-i.invariant.2 (sym c.digit_fits.ensures ∙ not-false _ c.if-not-digit_fits.false)).0
+
+pub overflow_add-value : goal.overflow_add-value
+overflow_add-value c = let z = digit_next _ c.loop-i.value c.loop-i.i c.loop-i-test.true c.loop-i.invariant.2 (sym c.digit_fits.ensures ∙ not-false _ c.if-not-digit_fits.false) in
+    rw c.digit_value.ensures (omega (arith, z.1))
+
+pub loop-i-preserved : goal.loop-i-preserved
+loop-i-preserved c = let z = digit_next _ c.loop-i.value c.loop-i.i c.loop-i-test.true c.loop-i.invariant.2 (sym c.digit_fits.ensures ∙ not-false _ c.if-not-digit_fits.false) in
+    rw c.digit_value.ensures (omega arith, z.1, z.2)
+
+pub returns : goal.returns
+returns c = let l = c.loop-i in
+    record { within = l.invariant.0; small = l.invariant.1; by = record { came = l.invariant.2; no_digit = λ h. absurd (omega arith); no_after = λ h _ _. absurd (omega arith) } }

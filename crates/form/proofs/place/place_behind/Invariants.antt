@@ -1,0 +1,14 @@
+-- `form::place::place_behind` meets its contract.
+use mathlib.Core.Path.{◌≡◌, refl, sym}
+use mathlib.Core.Logic.{⊎_elim}
+use Prim.Native.Nat.{◌-◌, ◌≤◌}
+use native.Mathlib.Omega.{arith}
+use lib.ListN.{length}
+use Rattle.form.proofs.Places.{Reached, reached_none, past_newline, past_other, reached_all}
+use Rattle.form.proofs.place.place_behind.Given as goal
+
+abbrev pub invariant-loop-i : goal.invariant-loop-i
+invariant-loop-i l = (l.i ≤ length l.read) × (l.i-end ≡ length l.read) × Reached l.read l.line l.byte l.i
+
+abbrev pub decreases-loop-i : goal.decreases-loop-i
+decreases-loop-i l = length l.read - l.i

@@ -1,0 +1,16 @@
+-- `job_writer::check_ends` meets its contract.
+use Rattle.job.proofs.Nets.{nets_none, nets_pass, nets_stop}
+use Rattle.job_writer.specs.Write.{first_of, second_of}
+use Rattle.job.specs.Job.{head_long}
+use Rattle.job.specs.Check.{nets_verdict}
+use Rattle.words.specs.declared.Verdict.TheVariants.{Done}
+use native.Mathlib.Omega.{arith}
+use mathlib.Core.Path.{◌≡◌, sym, ◌∙◌}
+use Prim.Native.Nat.{◌≤◌, ◌-◌}
+use Rattle.job_writer.proofs.check_ends.Given as goal
+
+abbrev pub invariant-loop-i : goal.invariant-loop-i
+invariant-loop-i l = (l.i ≤ l.n) × (nets_verdict l.f head_long (first_of l.ends) (second_of l.ends) l.i ≡ Done)
+
+abbrev pub decreases-loop-i : goal.decreases-loop-i
+decreases-loop-i l = l.n - l.i

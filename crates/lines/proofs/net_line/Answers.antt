@@ -1,0 +1,7 @@
+-- `lines::net_line` meets its contract.
+use Rattle.lines.proofs.Assembling.{net_told}
+use borrow.Author.Rules.{rules}
+use Rattle.lines.proofs.net_line.Goals as goal
+
+pub returns : goal.returns
+returns c = search net_told

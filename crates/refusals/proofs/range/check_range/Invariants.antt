@@ -1,0 +1,16 @@
+-- `refusals::range::check_range` meets its contract.
+use Rattle.refusals.proofs.Faults.{NoneBeyond, beyond_passes, beyond_stops, beyond_none}
+use Rattle.words.proofs.Order.{tests_start}
+use Rattle.laws.specs.Row.{at}
+use Rattle.job.specs.Job.{job_in}
+use native.Mathlib.Omega.{arith}
+use Prim.Native.Nat.{◌≤◌, ◌-◌}
+use mathlib.Core.Path.{sym, ◌∙◌}
+use borrow.Author.Tests.{not-true, not-false}
+use Rattle.refusals.proofs.range.check_range.Given as goal
+
+abbrev pub invariant-loop-i : goal.invariant-loop-i
+invariant-loop-i l = (l.i ≤ l.head.n) × NoneBeyond l.number (job_in l.job) (at l.plan) l.i
+
+abbrev pub decreases-loop-i : goal.decreases-loop-i
+decreases-loop-i l = l.head.n - l.i

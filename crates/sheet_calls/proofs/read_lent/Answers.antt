@@ -1,0 +1,12 @@
+-- `sheet_calls::read_lent` meets its contract.
+use borrow.Author.Tests.{lt-ltb}
+use Rattle.words.proofs.Order.{refuses, long_enough}
+use mathlib.Core.Path.{refl, sym, ◌∙◌}
+use borrow.Author.Rules.{rules}
+use Rattle.sheet_calls.proofs.read_lent.Goals as goal
+
+pub returns-then-plan-head : goal.returns-then-plan-head
+returns-then-plan-head c = (c.refuse.ensures ∙ sym (refuses _ 11 _ (lt-ltb _ _ (rw c.requires.well_formed.n at c.if-plan-head.true))), rw c.refuse.ensures refl)
+
+pub returns : goal.returns
+returns c = (sym ((long_enough _ _).1 (rw c.requires.well_formed.n at c.if-plan-head.false)), c.numbers_of.ensures)

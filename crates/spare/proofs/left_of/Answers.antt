@@ -1,0 +1,13 @@
+-- `spare::left_of` meets its contract.
+use Rattle.spare.proofs.Rooms.{counted_within, left_is}
+use native.Mathlib.Omega.{arith}
+use borrow.Author.Rules.{rules}
+use Rattle.spare.proofs.left_of.Goals as goal
+
+pub overflow_sub-result : goal.overflow_sub-result
+overflow_sub-result c = let p = c.requires in
+    omega (arith, counted_within _ _ p.0.0 p.0.1 _ p.1.0 p.1.1 _ c.limit_of.ensures.0)
+
+pub returns : goal.returns
+returns c = let p = c.requires in
+    rw c.wide.ensures.0 (left_is _ _ p.0.0 p.0.1 _ p.1.0 p.1.1 _ c.limit_of.ensures.0)

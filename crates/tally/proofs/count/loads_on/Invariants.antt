@@ -1,0 +1,14 @@
+-- `tally::count::loads_on` meets its contract.
+use Rattle.tally.proofs.Walks.{load_by, ends_low, loads_next, loads_pass, loads_fit, loads_all}
+use Rattle.job.specs.Job.{job_in}
+use Rattle.laws.proofs.Count.{Walked, walk_starts}
+use Rattle.laws.specs.Row.{at}
+use native.Mathlib.Omega.{arith}
+use Prim.Native.Nat.{◌≤◌, ◌-◌}
+use Rattle.tally.proofs.count.loads_on.Given as goal
+
+abbrev pub invariant-loop-i : goal.invariant-loop-i
+invariant-loop-i l = (l.i ≤ l.head.n) × Walked (load_by (job_in l.job) (at l.plan) l.x) 256 l.count l.i
+
+abbrev pub decreases-loop-i : goal.decreases-loop-i
+decreases-loop-i l = l.head.n - l.i

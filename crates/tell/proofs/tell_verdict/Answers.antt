@@ -1,0 +1,6 @@
+-- `tell::tell_verdict` meets its contract.
+use borrow.Author.Rules.{rules}
+use Rattle.tell.proofs.tell_verdict.Goals as goal
+
+pub returns : goal.returns
+returns c = rw (c.number_of.ensures, c.put.ensures, c.q_of.ensures, c.p_of.ensures)

@@ -1,0 +1,7 @@
+-- `text::line` meets its contract.
+use Rattle.text.proofs.Forming.{whole_line}
+use borrow.Author.Rules.{rules}
+use Rattle.text.proofs.line.Goals as goal
+
+pub returns : goal.returns
+returns c = search whole_line

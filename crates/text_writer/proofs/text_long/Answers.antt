@@ -1,0 +1,8 @@
+-- `text_writer::text_long` meets its contract.
+use native.Mathlib.Omega.{arith}
+use Rattle.text_writer.proofs.Long.{text_long}
+use borrow.Author.Rules.{rules}
+use Rattle.text_writer.proofs.text_long.Goals as goal
+
+pub returns : goal.returns
+returns c = omega (arith, c.head_long.ensures.0, c.nets_long.ensures.0, text_long _ _ c.requires)

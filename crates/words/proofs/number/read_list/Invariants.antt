@@ -1,0 +1,16 @@
+-- `words::number::read_list` meets its contract.
+use Rattle.words.proofs.Bytes.{read_next, onto_whole, length_numbers}
+use lib.Seq.{length-take-le}
+use Rattle.words.specs.Number.{numbers}
+use Rattle.words.specs.Lent.{onto}
+use lib.ListN.{length, take, set, length-set}
+use native.Mathlib.Omega.{arith}
+use mathlib.Core.Path.{◌≡◌, refl, ap, ◌∙◌}
+use Prim.Native.Nat.{◌≤◌, ◌-◌}
+use Rattle.words.proofs.number.read_list.Given as goal
+
+abbrev pub invariant-loop-i : goal.invariant-loop-i
+invariant-loop-i l = (l.i ≤ length l.initial.out) × (length l.out ≡ length l.initial.out) × (l.out ≡ onto (take l.i (numbers l.s)) l.initial.out)
+
+abbrev pub decreases-loop-i : goal.decreases-loop-i
+decreases-loop-i l = length l.initial.out - l.i
