@@ -22,7 +22,10 @@ returns-in-Refused-long c = rw (refused_length _ (sym c.check_head-first.ensures
 
 pub check_nets-requires : goal.check_nets-requires
 check_nets-requires c = let e = c.head_in-head.ensures in
-    ((ap (λ (h : Head). h.start) e, rw e (its_length _ (sym c.check_length-long.ensures ∙ c.in_default-long.is)), head_few _ _ e (sym c.check_head-first.ensures ∙ c.in_default.is)), rw e (nets_at_small _))
+    record {
+      start_value = (ap (λ (h : Head). h.start) e, rw e (its_length _ (sym c.check_length-long.ensures ∙ c.in_default-long.is)), head_few _ _ e (sym c.check_head-first.ensures ∙ c.in_default.is));
+      start_bound = rw e (nets_at_small _);
+    }
 
 pub returns : goal.returns
 returns c = rw (nets_decide _ _ c.head_in-head.ensures (sym c.check_head-first.ensures ∙ c.in_default.is) (sym c.check_length-long.ensures ∙ c.in_default-long.is) _ c.check_nets.ensures, c.checked_by.ensures, c.head_in-head.ensures)

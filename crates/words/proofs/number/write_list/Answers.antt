@@ -16,7 +16,7 @@ loop-i-init c = (omega arith, refl, refl)
 pub loop-i-preserved : goal.loop-i-preserved
 loop-i-preserved c = let l = c.loop-i in
     let w = c.write in
-    let z = w.auto.0 in
+    let z = w.auto.room in
     (omega arith, omega arith, w.ensures ∙ write_next _ _ l.room l.i (omega arith) (omega arith) l.invariant.2)
 
 pub returns : goal.returns
