@@ -7,4 +7,4 @@ use Rattle.wires.proofs.dealt_to.Goals as goal
 
 pub returns : goal.returns
 unfolding deal
-returns c = (rw c.requires.c, omega (arith, mod-lt c.args.i c.requires.ranged.c-low, c.requires.ranged.c-high))
+returns c = (rw c.requires.c, omega (arith, mod-lt c.args.i c.requires.ranged.c_low, c.requires.ranged.c_high))
