@@ -9,17 +9,13 @@ use lib.ListN.{length, replicate, drop, length-set}
 use borrow.Author.Rules.{rules}
 use Rattle.scratch.proofs.fill.Goals as goal
 
-)
-
 pub loop-i-init : goal.loop-i-init
 loop-i-init c = (omega arith, refl, fill_none c.args.s.now c.args.v)
 
 pub loop-i-preserved : goal.loop-i-preserved
-loop-i-preserved c = (
-  omega arith,
-  simp length-set c.loop-i.invariant.1,
-  rw c.loop-i.invariant.2 (fill_more c.loop-i.i c.args.v c.args.s.now (omega arith)),
+loop-i-preserved c = (omega arith, simp length-set c.loop-i.invariant.1,
+    rw c.loop-i.invariant.2 (fill_more c.loop-i.i c.args.v c.args.s.now (omega arith)))
 
 pub returns : goal.returns
-returns c =    let e : c.loop-i.i ≡ length c.args.s.now = omega arith in
+returns c = let e : c.loop-i.i ≡ length c.args.s.now = omega arith in
     c.loop-i.invariant.2 ∙ rw (e, drop-length, append-nil)
