@@ -1,12 +1,9 @@
 -- `pair::gather` meets its contract: the state is `Placed`, and each way through a turn is a law of `Placing`. Assumes nothing.
--- the FPGA that was read is one of the board
-use Prim.Native.Nat.{◌≤◌, ◌<◌, ◌-◌}
+use Prim.Native.Nat.{◌<◌}
 use mathlib.Core.Path.{◌≡◌}
 use native.Mathlib.Omega.{arith}
 use Rattle.pair.specs.Pair.{fpga_count}
-use Rattle.pair.specs.Making.{Placed}
 use Rattle.pair.proofs.Placing.{placed_start, placed_wait, below, here_in, wait_in, placed_join}
-use borrow.Author.Rules.{rules}
 use Rattle.pair.proofs.gather.Goals as goal
 
 pub loop-i-init : goal.loop-i-init
@@ -40,5 +37,5 @@ pub loop-i-preserved : goal.loop-i-preserved
 loop-i-preserved c = (omega arith, search placed_join)
 
 pub returns : goal.returns
-returns c =    let e : c.loop-i.i ≡ c.args.n = omega arith in
+returns c = let e : c.loop-i.i ≡ c.args.n = omega arith in
     rw e at c.loop-i.invariant.1
