@@ -1,4 +1,6 @@
 // The calls for C, as include/hogvuldur.h declares them: a slice is a pointer and a length there.
+#![tactic(auto)]
+
 ghost use Rattle.std.specs.Prelude.{◌≡◌, length};
 ghost use Rattle.laws.specs.Row.{at, row};
 ghost use Rattle.words.specs.declared.Written.{Written};
@@ -22,9 +24,9 @@ ghost use Rattle.audit.specs.Audit.{audit_verdict, read_sheet_verdict, write_she
 ghost use Rattle.evidence.specs.Evidence.{audit_fault};
 ghost use Rattle.tell.specs.InC.{verdict_in_c, written_in_c, numbers_in_c, net_in_c, section_in_c, round_in_c, finish_in_c, fault_in_c, room_in_c, Told};
 
-use crate::{check, finish, plan};
 use audit::audit::audit;
 use evidence::find_fault;
+use hogvuldur::{check, finish, plan};
 use job::well_formed::check_job;
 use job_writer::write_job;
 use reader::{net_of_job, numbers_of};

@@ -1,4 +1,4 @@
--- `hogvuldur::c::hogvuldur_net_section` meets its contract.
+-- `hogvuldur_c::hogvuldur_net_section` meets its contract.
 -- a section has four bytes for each of 4,096 nets at the most
 use Rattle.tell.specs.InC.{section_in_c}
 use Rattle.words.specs.declared.Verdict.{Verdict}
@@ -12,7 +12,7 @@ use mathlib.Core.List.{List}
 use Prim.Native.Nat.{ℕ, ◌≤◌}
 use mathlib.Core.Path.{◌≡◌, refl, ap, ◌∙◌}
 use borrow.Author.Rules.{rules}
-use Rattle.hogvuldur.proofs.c.hogvuldur_net_section.Goals as goal
+use Rattle.hogvuldur_c.proofs.hogvuldur_net_section.Goals as goal
 
 section-short : (job : List ℕ) → section_long (checked_of job) ≤ 16384
 section-short job = go (job_verdict job) refl
