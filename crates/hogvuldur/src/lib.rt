@@ -1,4 +1,4 @@
-// All calls in one place. Each is proved in the crate of its layer; c.rt has their C form.
+// All calls in one place. Each is proved in the crate of its layer; hogvuldur_c has their C form.
 #![tactic(auto)]
 
 ghost use Rattle.std.specs.Prelude.{◌≡◌};
@@ -10,8 +10,6 @@ ghost use Rattle.finish.specs.Plan.{PlanCall};
 use finish::calls;
 use job::Checked;
 use job::well_formed::check_job;
-
-pub mod c;
 
 // The words.
 pub use words::{Crossbar, Fpga, Net, Place, Refusal, Verdict, Written, number_of};

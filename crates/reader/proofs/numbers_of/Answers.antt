@@ -3,7 +3,6 @@ use mathlib.Core.Path.{sym, ap, ◌∙◌}
 use native.Mathlib.Omega.{arith}
 use Rattle.reader.specs.Held.{numbers_of}
 use Rattle.job.proofs.Passing.{check_passed}
-use borrow.Author.Rules.{rules}
 use Rattle.reader.proofs.numbers_of.Goals as goal
 
 pub overflow_cast-result : goal.overflow_cast-result

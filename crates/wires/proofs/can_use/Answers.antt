@@ -1,6 +1,5 @@
 -- `wires::can_use` meets its contract.
 use Rattle.board.specs.Board.{usable}
-use borrow.Author.Rules.{rules}
 use Rattle.wires.proofs.can_use.Goals as goal
 
 pub returns : goal.returns

@@ -2,7 +2,6 @@
 use Rattle.board.specs.Board.{deal}
 use native.Mathlib.Omega.{arith}
 use native.Mathlib.Nat.{mod-lt}
-use borrow.Author.Rules.{rules}
 use Rattle.wires.proofs.dealt_to.Goals as goal
 
 pub returns : goal.returns

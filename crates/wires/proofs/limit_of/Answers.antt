@@ -2,7 +2,6 @@
 use Rattle.board.specs.Board.{limit}
 use native.Mathlib.Omega.{arith}
 use native.Mathlib.Nat.{mul-le-mul}
-use borrow.Author.Rules.{rules}
 use Rattle.wires.proofs.limit_of.Goals as goal
 
 pub overflow_mul-result : goal.overflow_mul-result

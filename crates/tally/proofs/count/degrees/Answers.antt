@@ -1,10 +1,7 @@
 -- `tally::count::degrees` meets its contract.
 use Rattle.tally.proofs.Walks.{ends_low, degrees_next, degrees_fit, degrees_all}
-use Rattle.board.specs.Board.{ends_at}
-use Rattle.job.specs.Job.{job_in}
-use Rattle.laws.proofs.Count.{Walked, walk_starts}
+use Rattle.laws.proofs.Count.{walk_starts}
 use native.Mathlib.Omega.{arith}
-use Prim.Native.Nat.{◌≤◌, ◌-◌}
 use borrow.Author.Rules.{rules}
 use Rattle.tally.proofs.count.degrees.Goals as goal
 

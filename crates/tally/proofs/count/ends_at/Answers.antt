@@ -1,7 +1,6 @@
 -- `tally::count::ends_at` meets its contract.
 use native.Mathlib.Omega.{arith}
 use Rattle.tally.proofs.Walks.{ends_first, ends_second}
-use borrow.Author.Rules.{rules}
 use Rattle.tally.proofs.count.ends_at.Goals as goal
 
 pub returns-then-first_end-v : goal.returns-then-first_end-v

@@ -1,10 +1,9 @@
 -- `tally::count::loads_of` meets its contract.
 use Prim.Native.Nat.{◌≤◌, ◌-◌}
-use native.Mathlib.Omega.{arith}
 use Rattle.laws.specs.Row.{at}
-use Rattle.laws.proofs.Count.{Walked, walk_starts}
+use Rattle.laws.proofs.Count.{Walked}
 use Rattle.job.specs.Job.{job_in}
-use Rattle.tally.proofs.Walks.{load_by, own_passes, own_fits, own_counts, own_all, crossbar_low}
+use Rattle.tally.proofs.Walks.{load_by}
 use Rattle.tally.proofs.count.loads_of.Given as goal
 
 abbrev pub invariant-loop-i : goal.invariant-loop-i

@@ -1,10 +1,7 @@
 -- `tally::count::loads_on` meets its contract.
-use Rattle.tally.proofs.Walks.{load_by, ends_low, loads_next, loads_pass, loads_fit, loads_all}
-use Rattle.job.specs.Job.{job_in}
-use Rattle.laws.proofs.Count.{Walked, walk_starts}
-use Rattle.laws.specs.Row.{at}
+use Rattle.tally.proofs.Walks.{ends_low, loads_next, loads_pass, loads_fit, loads_all}
+use Rattle.laws.proofs.Count.{walk_starts}
 use native.Mathlib.Omega.{arith}
-use Prim.Native.Nat.{◌≤◌, ◌-◌}
 use borrow.Author.Rules.{rules}
 use Rattle.tally.proofs.count.loads_on.Goals as goal
 

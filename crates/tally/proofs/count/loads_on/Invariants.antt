@@ -1,9 +1,8 @@
 -- `tally::count::loads_on` meets its contract.
-use Rattle.tally.proofs.Walks.{load_by, ends_low, loads_next, loads_pass, loads_fit, loads_all}
+use Rattle.tally.proofs.Walks.{load_by}
 use Rattle.job.specs.Job.{job_in}
-use Rattle.laws.proofs.Count.{Walked, walk_starts}
+use Rattle.laws.proofs.Count.{Walked}
 use Rattle.laws.specs.Row.{at}
-use native.Mathlib.Omega.{arith}
 use Prim.Native.Nat.{◌≤◌, ◌-◌}
 use Rattle.tally.proofs.count.loads_on.Given as goal
 

@@ -1,9 +1,7 @@
 -- `tally::count::totals_of` meets its contract.
-use Rattle.tally.proofs.Walks.{total_by, totals_next, totals_fit, totals_all}
-use Rattle.laws.proofs.Count.{Walked, walk_starts}
-use Rattle.laws.specs.Row.{at}
+use Rattle.tally.proofs.Walks.{totals_next, totals_fit, totals_all}
+use Rattle.laws.proofs.Count.{walk_starts}
 use native.Mathlib.Omega.{arith}
-use Prim.Native.Nat.{◌≤◌, ◌-◌}
 use borrow.Author.Rules.{rules}
 use Rattle.tally.proofs.count.totals_of.Goals as goal
 

@@ -1,8 +1,7 @@
 -- `tally::count::totals_of` meets its contract.
-use Rattle.tally.proofs.Walks.{total_by, totals_next, totals_fit, totals_all}
-use Rattle.laws.proofs.Count.{Walked, walk_starts}
+use Rattle.tally.proofs.Walks.{total_by}
+use Rattle.laws.proofs.Count.{Walked}
 use Rattle.laws.specs.Row.{at}
-use native.Mathlib.Omega.{arith}
 use Prim.Native.Nat.{◌≤◌, ◌-◌}
 use Rattle.tally.proofs.count.totals_of.Given as goal
 

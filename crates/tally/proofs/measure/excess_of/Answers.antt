@@ -5,9 +5,7 @@ use Rattle.laws.proofs.Sum.{sum_more}
 use Rattle.laws.specs.Row.{at}
 use Rattle.laws.specs.Sum.{sum}
 use native.Mathlib.Omega.{arith}
-use Prim.Native.Nat.{◌≤◌, ◌*◌, ◌-◌}
-use mathlib.Core.Path.{◌≡◌, refl, ◌∙◌}
-use borrow.Author.Rules.{rules}
+use mathlib.Core.Path.{refl, ◌∙◌}
 use Rattle.tally.proofs.measure.excess_of.Goals as goal
 
 pub loop-x-init : goal.loop-x-init

@@ -1,12 +1,10 @@
 -- `tally::measure::excess_of` meets its contract.
-use Rattle.tally.proofs.Crossbars.{excess_on, excess_counted, excess_all}
+use Rattle.tally.proofs.Crossbars.{excess_on}
 use Rattle.job.specs.Job.{job_in}
-use Rattle.laws.proofs.Sum.{sum_more}
 use Rattle.laws.specs.Row.{at}
 use Rattle.laws.specs.Sum.{sum}
-use native.Mathlib.Omega.{arith}
 use Prim.Native.Nat.{◌≤◌, ◌*◌, ◌-◌}
-use mathlib.Core.Path.{◌≡◌, refl, ◌∙◌}
+use mathlib.Core.Path.{◌≡◌}
 use Rattle.tally.proofs.measure.excess_of.Given as goal
 
 abbrev pub invariant-loop-x : goal.invariant-loop-x

@@ -4,9 +4,8 @@ use Rattle.laws.specs.Row.{at}
 use Rattle.laws.specs.Sum.{sum}
 use Rattle.job.specs.Job.{job_in}
 use native.Mathlib.Omega.{arith}
-use Prim.Native.Nat.{◌≤◌, ◌*◌, ◌-◌}
+use Prim.Native.Nat.{◌-◌}
 use mathlib.Core.Path.{◌≡◌, refl}
-use borrow.Author.Rules.{rules}
 use Rattle.tally.proofs.measure.excess_on.Goals as goal
 
 pub loop-v-init : goal.loop-v-init

@@ -1,11 +1,9 @@
 -- `tally::measure::excess_on` meets its contract.
-use Rattle.laws.proofs.Sum.{sum_more}
 use Rattle.laws.specs.Row.{at}
 use Rattle.laws.specs.Sum.{sum}
 use Rattle.job.specs.Job.{job_in}
-use native.Mathlib.Omega.{arith}
 use Prim.Native.Nat.{◌≤◌, ◌*◌, ◌-◌}
-use mathlib.Core.Path.{◌≡◌, refl}
+use mathlib.Core.Path.{◌≡◌}
 use Rattle.tally.proofs.measure.excess_on.Given as goal
 
 abbrev pub invariant-loop-v : goal.invariant-loop-v

@@ -1,8 +1,0 @@
--- `hogvuldur::c::hogvuldur_check` meets its contract.
-use mathlib.Core.Path.{◌∙◌, ap}
-use Rattle.tell.specs.InC.{verdict_in_c}
-use borrow.Author.Rules.{rules}
-use Rattle.hogvuldur.proofs.c.hogvuldur_check.Goals as goal
-
-pub returns : goal.returns
-returns c = c.tell_verdict.ensures ∙ ap verdict_in_c c.check.ensures

@@ -1,8 +1,0 @@
--- `hogvuldur::c::hogvuldur_read_sheet` meets its contract.
-use mathlib.Core.Path.{◌∙◌, ap}
-use Rattle.tell.specs.InC.{written_in_c}
-use borrow.Author.Rules.{rules}
-use Rattle.hogvuldur.proofs.c.hogvuldur_read_sheet.Goals as goal
-
-pub returns : goal.returns
-returns c = let e = c.read_sheet.ensures in (c.tell_written.ensures ∙ ap written_in_c e.0, e.1)

@@ -1,8 +1,0 @@
--- `hogvuldur::c::hogvuldur_spare` meets its contract.
-use mathlib.Core.Path.{◌∙◌, ap}
-use Rattle.tell.specs.InC.{room_in_c}
-use borrow.Author.Rules.{rules}
-use Rattle.hogvuldur.proofs.c.hogvuldur_spare.Goals as goal
-
-pub returns : goal.returns
-returns c = c.tell_room.ensures ∙ ap room_in_c c.spare.ensures
