@@ -1,35 +1,34 @@
--- What a place points at. A match knows the places that its arms left by their tags.
+-- What a place points at. A match knows of the places that its arms took that this is none of them.
 -- Assumes nothing.
 use mathlib.Core.Path.{◌≡◌, refl}
-use mathlib.Core.List.{List, [], ◌∷◌}
+use mathlib.Core.List.{List}
 use mathlib.Core.Bool.{cond}
 use Prim.Native.Nat.{ℕ}
 use lib.Dec.{eqb}
 use borrow.Author.Tests.{ne_eqb}
-use types.Run.{OneOf, miss}
-use denote.Enum.Declared.{tag_of}
 use Rattle.words.specs.declared.Place.{Place}
 use Rattle.words.specs.declared.Place.TheVariants.{Byte, Net, End, Fpga, Crossbar, Load, Length, Line, Nowhere}
+use Rattle.words.specs.declared.Net.{Net as NetNumber}
+use Rattle.words.specs.declared.Crossbar.{Crossbar as CrossbarNumber}
 use Rattle.words.specs.declared.Refusal.{Refusal}
 use Rattle.words.specs.Verdict.{at_end}
-use Rattle.words.specs.contracts.Place.{the_type}
 use Rattle.job.specs.Job.{nets_at, first_at}
 use Rattle.evidence.specs.declared.Fault.{Fault}
 use Rattle.evidence.specs.Evidence.{in_job, nothing, by_place, job_fault, sheet_fault}
 
-elsewhere : (byte net : ℕ → Fault) (end : ℕ → ℕ → Fault) (crossbar : ℕ → Fault) (left : List ℕ)
-    → (OneOf left 0 → (p : ℕ) → byte p ≡ nothing) → (OneOf left 1 → (i : ℕ) → net i ≡ nothing)
-    → (OneOf left 2 → (i at : ℕ) → end i at ≡ nothing) → (OneOf left 4 → (x : ℕ) → crossbar x ≡ nothing)
-    → (place : Place) → OneOf left (tag_of the_type place) → by_place byte net end crossbar place ≡ nothing
-elsewhere byte net end crossbar left b n e c (Byte p) h = b h p
-elsewhere byte net end crossbar left b n e c (Net i) h = n h i.0
-elsewhere byte net end crossbar left b n e c (End i at) h = e h i.0 at
-elsewhere byte net end crossbar left b n e c (Fpga v) h = refl
-elsewhere byte net end crossbar left b n e c (Crossbar x) h = c h x.0
-elsewhere byte net end crossbar left b n e c (Load v x) h = refl
-elsewhere byte net end crossbar left b n e c (Length k) h = refl
-elsewhere byte net end crossbar left b n e c (Line line at) h = refl
-elsewhere byte net end crossbar left b n e c Nowhere h = refl
+elsewhere : (byte net : ℕ → Fault) (end : ℕ → ℕ → Fault) (crossbar : ℕ → Fault) (place : Place)
+    → ((p : ℕ) → place ≡ Byte p → byte p ≡ nothing) → ((i : NetNumber) → place ≡ Net i → net i.0 ≡ nothing)
+    → ((i : NetNumber) (at : ℕ) → place ≡ End i at → end i.0 at ≡ nothing)
+    → ((x : CrossbarNumber) → place ≡ Crossbar x → crossbar x.0 ≡ nothing) → by_place byte net end crossbar place ≡ nothing
+elsewhere byte net end crossbar (Byte p) b n e c = b p refl
+elsewhere byte net end crossbar (Net i) b n e c = n i refl
+elsewhere byte net end crossbar (End i at) b n e c = e i at refl
+elsewhere byte net end crossbar (Fpga v) b n e c = refl
+elsewhere byte net end crossbar (Crossbar x) b n e c = c x refl
+elsewhere byte net end crossbar (Load v x) b n e c = refl
+elsewhere byte net end crossbar (Length k) b n e c = refl
+elsewhere byte net end crossbar (Line line at) b n e c = refl
+elsewhere byte net end crossbar Nowhere b n e c = refl
 
 module _ (job : List ℕ) (r : Refusal) where
   -- a number of net i, at byte `at`
@@ -48,15 +47,12 @@ module _ (job : List ℕ) (r : Refusal) where
     both_of_10 p q both e = rw (place, ne_eqb _ 9 p, ne_eqb _ 27 q, e)
 
   -- no number of a net
-  pub job_elsewhere : OneOf (0 ∷ 1 ∷ 3 ∷ 4 ∷ 5 ∷ 6 ∷ 7 ∷ 8 ∷ []) (tag_of the_type r.place) → job_fault job r ≡ nothing
+  pub job_elsewhere : ((i : NetNumber) (at : ℕ) → r.place ≡ End i at → ⊥) → job_fault job r ≡ nothing
   unfolding job_fault
-  job_elsewhere h =
-      let left : List ℕ = 0 ∷ 1 ∷ 3 ∷ 4 ∷ 5 ∷ 6 ∷ 7 ∷ 8 ∷ [] in
-      elsewhere _ _ _ _ left (λ _ _. refl) (λ _ _. refl) (λ no. absurd (miss left 2 tt no)) (λ _ _. refl) r.place h
+  job_elsewhere h = elsewhere _ _ _ _ r.place (λ _ _. refl) (λ _ _. refl) (λ i at e. absurd (h i at e)) (λ _ _. refl)
 
   -- no byte, net or crossbar
-  pub sheet_elsewhere : OneOf (2 ∷ 3 ∷ 5 ∷ 6 ∷ 7 ∷ 8 ∷ []) (tag_of the_type r.place) → sheet_fault job r ≡ nothing
+  pub sheet_elsewhere : ((p : ℕ) → r.place ≡ Byte p → ⊥) → ((i : NetNumber) → r.place ≡ Net i → ⊥) → ((x : CrossbarNumber) → r.place ≡ Crossbar x → ⊥)
+      → sheet_fault job r ≡ nothing
   unfolding sheet_fault
-  sheet_elsewhere h =
-      let left : List ℕ = 2 ∷ 3 ∷ 5 ∷ 6 ∷ 7 ∷ 8 ∷ [] in
-      elsewhere _ _ _ _ left (λ no. absurd (miss left 0 tt no)) (λ no. absurd (miss left 1 tt no)) (λ _ _ _. refl) (λ no. absurd (miss left 4 tt no)) r.place h
+  sheet_elsewhere b n c = elsewhere _ _ _ _ r.place (λ p e. absurd (b p e)) (λ i e. absurd (n i e)) (λ _ _ _. refl) (λ x e. absurd (c x e))

@@ -15,4 +15,4 @@ returns-else-number-eq27 c = let both = rw (c.first_at.ensures, c.wide.ensures.0
     c.fault_if.ensures ∙ sym (both_of_10 _ _ _ _ c.in-End.is c.if-number-eq9.false c.if-number-eq27.false _ both)
 
 pub returns-in_default : goal.returns-in_default
-returns-in_default c = c.nothing.ensures ∙ sym (job_elsewhere _ _ c.in_default.keys2)
+returns-in_default c = c.nothing.ensures ∙ sym (job_elsewhere _ _ c.in_default.not-End)

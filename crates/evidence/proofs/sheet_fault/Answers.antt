@@ -18,4 +18,4 @@ unfolding sheet_fault
 returns-in-Crossbar c = rw (c.two_bytes-in-Crossbar.ensures, c.wide-in-Crossbar.ensures.0, c.totals_at.ensures) at c.fault_if-in-Crossbar.ensures ∙ sym (rw c.in-Crossbar.is)
 
 pub returns-in_default : goal.returns-in_default
-returns-in_default c = c.nothing.ensures ∙ sym (sheet_elsewhere _ _ c.in_default.keys4)
+returns-in_default c = let d = c.in_default in c.nothing.ensures ∙ sym (sheet_elsewhere _ _ d.not-Byte d.not-Net d.not-Crossbar)

@@ -5,4 +5,4 @@ use borrow.Author.Rules.{rules}
 use Rattle.evidence.proofs.stretch.Goals as goal
 
 pub returns : goal.returns
-returns c = stretch_part _ _ _ _ _ (omega arith)
+returns c = stretch_part _ _ _ _ (omega arith)

@@ -1,13 +1,7 @@
 -- `job_writer::check_ends` meets its contract.
 use Rattle.job.proofs.Nets.{nets_none, nets_pass, nets_stop}
-use Rattle.job_writer.specs.Write.{first_of, second_of}
-use Rattle.job.specs.Job.{head_long}
-use Rattle.job.specs.Check.{nets_verdict}
-use Rattle.words.specs.declared.Verdict.TheVariants.{Done}
 use native.Mathlib.Omega.{arith}
 use mathlib.Core.Path.{◌≡◌, sym, ◌∙◌}
-use Prim.Native.Nat.{◌≤◌, ◌-◌}
-use borrow.Author.Rules.{rules}
 use Rattle.job_writer.proofs.check_ends.Goals as goal
 
 pub loop-i-init : goal.loop-i-init

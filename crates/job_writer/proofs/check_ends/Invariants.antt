@@ -1,11 +1,9 @@
 -- `job_writer::check_ends` meets its contract.
-use Rattle.job.proofs.Nets.{nets_none, nets_pass, nets_stop}
 use Rattle.job_writer.specs.Write.{first_of, second_of}
 use Rattle.job.specs.Job.{head_long}
 use Rattle.job.specs.Check.{nets_verdict}
 use Rattle.words.specs.declared.Verdict.TheVariants.{Done}
-use native.Mathlib.Omega.{arith}
-use mathlib.Core.Path.{◌≡◌, sym, ◌∙◌}
+use mathlib.Core.Path.{◌≡◌}
 use Prim.Native.Nat.{◌≤◌, ◌-◌}
 use Rattle.job_writer.proofs.check_ends.Given as goal
 

@@ -3,7 +3,6 @@ use Rattle.job_writer.proofs.Writing.{write_out_of_range, too_few, too_small, by
 use Rattle.job.proofs.Stages.{ranged}
 use native.Mathlib.Omega.{arith}
 use mathlib.Core.Path.{sym, ◌∙◌}
-use borrow.Author.Rules.{rules}
 use Rattle.job_writer.proofs.check_write.Goals as goal
 
 pub returns-in-Refused : goal.returns-in-Refused

@@ -5,7 +5,6 @@ use lib.ListN.{length-take}
 use native.Mathlib.Omega.{arith}
 use mathlib.Core.Path.{◌≡◌, sym}
 use Prim.Native.Nat.{◌*◌}
-use borrow.Author.Rules.{rules}
 use Rattle.job_writer.proofs.put_job.Goals as goal
 
 pub slice_bounds-write_behind-end : goal.slice_bounds-write_behind-end

@@ -1,5 +1,4 @@
 -- `job_writer::put_net` meets its contract.
-use borrow.Author.Rules.{rules}
 use Rattle.job_writer.proofs.put_net.Goals as goal
 
 pub returns : goal.returns

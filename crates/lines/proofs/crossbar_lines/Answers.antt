@@ -1,14 +1,7 @@
 -- `lines::crossbar_lines` meets its contract.
-use Rattle.text.specs.Text.{up_to, puts, each}
-use Rattle.text.specs.Forms.{line}
 use Rattle.text.proofs.Putting.{each_none, each_next, each_all}
-use mathlib.Core.List.{[], ◌∷◌}
-use Rattle.lines.specs.Lines.{crossbar_word}
 use native.Mathlib.Omega.{arith}
-use mathlib.Core.Path.{◌≡◌, refl}
-use Prim.Native.Nat.{◌≤◌, ◌-◌}
-use lib.ListN.{length}
-use Rattle.laws.specs.Row as row
+use mathlib.Core.Path.{refl}
 use borrow.Author.Rules.{rules}
 use Rattle.lines.proofs.crossbar_lines.Goals as goal
 

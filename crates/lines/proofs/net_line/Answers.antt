@@ -1,6 +1,5 @@
 -- `lines::net_line` meets its contract.
 use Rattle.lines.proofs.Assembling.{net_told}
-use borrow.Author.Rules.{rules}
 use Rattle.lines.proofs.net_line.Goals as goal
 
 pub returns : goal.returns

@@ -1,13 +1,7 @@
 -- `lines::net_lines` meets its contract.
-use Rattle.text.specs.Text.{up_to, puts, each}
 use Rattle.text.proofs.Putting.{each_none, each_next, each_all}
-use Rattle.job.specs.Job.{job_in}
-use Rattle.lines.specs.Lines.{net_line}
 use native.Mathlib.Omega.{arith}
-use mathlib.Core.Path.{◌≡◌, refl}
-use Prim.Native.Nat.{◌≤◌, ◌-◌}
-use lib.ListN.{length}
-use Rattle.laws.specs.Row as row
+use mathlib.Core.Path.{refl}
 use borrow.Author.Rules.{rules}
 use Rattle.lines.proofs.net_lines.Goals as goal
 

@@ -1,10 +1,8 @@
 -- `lines::net_lines` meets its contract.
 use Rattle.text.specs.Text.{up_to, puts, each}
-use Rattle.text.proofs.Putting.{each_none, each_next, each_all}
 use Rattle.job.specs.Job.{job_in}
 use Rattle.lines.specs.Lines.{net_line}
-use native.Mathlib.Omega.{arith}
-use mathlib.Core.Path.{◌≡◌, refl}
+use mathlib.Core.Path.{◌≡◌}
 use Prim.Native.Nat.{◌≤◌, ◌-◌}
 use lib.ListN.{length}
 use Rattle.laws.specs.Row as row

@@ -1,31 +1,25 @@
 -- `pair::gather` meets its contract: the state is `Placed`, and each way through a turn is a law of `Placing`. Assumes nothing.
--- the FPGA that was read is one of the board
-use Prim.Native.Nat.{◌≤◌, ◌<◌, ◌-◌}
+use Prim.Native.Nat.{◌<◌}
 use mathlib.Core.Path.{◌≡◌}
 use native.Mathlib.Omega.{arith}
 use Rattle.pair.specs.Pair.{fpga_count}
-use Rattle.pair.specs.Making.{Placed}
 use Rattle.pair.proofs.Placing.{placed_start, placed_wait, below, here_in, wait_in, placed_join}
-use borrow.Author.Rules.{rules}
 use Rattle.pair.proofs.gather.Goals as goal
-
-small : (c : tie.After-wide invariant-loop decreases-loop) → c.wide.result < fpga_count
-small c = search below
 
 pub loop-i-init : goal.loop-i-init
 loop-i-init c = (omega arith, search placed_start)
 
 pub offset_bounds-wait-v : goal.offset_bounds-wait-v
-offset_bounds-wait-v c = omega (arith, small c)
+offset_bounds-wait-v c = let small : c.wide-v.result < fpga_count = search below in omega arith
 
 pub bounds-wait-v : goal.bounds-wait-v
-bounds-wait-v c = small c
+bounds-wait-v c = search below
 
 pub offset_bounds-wait-v-then-w-eq0 : goal.offset_bounds-wait-v-then-w-eq0
-offset_bounds-wait-v-then-w-eq0 c = omega (arith, small c)
+offset_bounds-wait-v-then-w-eq0 c = let small : c.wide-v.result < fpga_count = search below in omega arith
 
 pub bounds-wait-v-then-w-eq0 : goal.bounds-wait-v-then-w-eq0
-bounds-wait-v-then-w-eq0 c = small c
+bounds-wait-v-then-w-eq0 c = search below
 
 pub loop-i-preserved-then-w-eq0 : goal.loop-i-preserved-then-w-eq0
 loop-i-preserved-then-w-eq0 c = (omega arith, search placed_wait)
@@ -34,14 +28,14 @@ pub link-requires : goal.link-requires
 link-requires c = (search here_in, search wait_in)
 
 pub offset_bounds-wait-v-else-w-eq0 : goal.offset_bounds-wait-v-else-w-eq0
-offset_bounds-wait-v-else-w-eq0 c = omega (arith, small c)
+offset_bounds-wait-v-else-w-eq0 c = let small : c.wide-v.result < fpga_count = search below in omega arith
 
 pub bounds-wait-v-else-w-eq0 : goal.bounds-wait-v-else-w-eq0
-bounds-wait-v-else-w-eq0 c = small c
+bounds-wait-v-else-w-eq0 c = search below
 
 pub loop-i-preserved : goal.loop-i-preserved
 loop-i-preserved c = (omega arith, search placed_join)
 
 pub returns : goal.returns
-returns c =    let e : c.loop-i.i ≡ c.args.n = omega arith in
+returns c = let e : c.loop-i.i ≡ c.args.n = omega arith in
     rw e at c.loop-i.invariant.1

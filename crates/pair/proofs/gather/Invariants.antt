@@ -1,11 +1,6 @@
 -- `pair::gather` meets its contract: the state is `Placed`, and each way through a turn is a law of `Placing`. Assumes nothing.
--- the FPGA that was read is one of the board
-use Prim.Native.Nat.{◌≤◌, ◌<◌, ◌-◌}
-use mathlib.Core.Path.{◌≡◌}
-use native.Mathlib.Omega.{arith}
-use Rattle.pair.specs.Pair.{fpga_count}
+use Prim.Native.Nat.{◌≤◌, ◌-◌}
 use Rattle.pair.specs.Making.{Placed}
-use Rattle.pair.proofs.Placing.{placed_start, placed_wait, below, here_in, wait_in, placed_join}
 use Rattle.pair.proofs.gather.Given as goal
 
 abbrev pub invariant-loop-i : goal.invariant-loop-i

@@ -1,9 +1,5 @@
 -- `pair::sweep` meets its contract: the state is `Swept`, and each way through a turn is a law of `Sweeping`. Assumes nothing.
-use Prim.Native.Nat.{◌-◌}
-use lib.ListN.{length}
-use Rattle.pair.specs.Pair.{fpga_count}
-use Rattle.pair.proofs.Sweeping.{Swept, start, skip, pick, carry_in, wait_in, join, finish}
-use borrow.Author.Rules.{rules}
+use Rattle.pair.proofs.Sweeping.{start, skip, pick, carry_in, wait_in, join, finish}
 use Rattle.pair.proofs.sweep.Goals as goal
 
 pub loop-v-init : goal.loop-v-init

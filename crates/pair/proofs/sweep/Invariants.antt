@@ -2,7 +2,7 @@
 use Prim.Native.Nat.{◌-◌}
 use lib.ListN.{length}
 use Rattle.pair.specs.Pair.{fpga_count}
-use Rattle.pair.proofs.Sweeping.{Swept, start, skip, pick, carry_in, wait_in, join, finish}
+use Rattle.pair.proofs.Sweeping.{Swept}
 use Rattle.pair.proofs.sweep.Given as goal
 
 abbrev pub invariant-loop-v : goal.invariant-loop-v

@@ -1,7 +1,5 @@
 -- `recolour::collect` meets its contract: the state is `Collected`, one more net each turn. Assumes nothing.
 use Rattle.recolour.specs.Steps.{Collected}
-use Rattle.recolour.proofs.Collecting.{collect_none, collect_more, collect_skip, collect_all, in_room}
-use native.Mathlib.Omega.{arith}
 use Prim.Native.Nat.{◌≤◌, ◌-◌}
 use Rattle.recolour.proofs.collect.Given as goal
 

@@ -1,9 +1,6 @@
 -- `recolour::count_on` meets its contract: the state is `CountedOn`, one more net each turn. Assumes nothing.
-use Rattle.recolour.specs.Steps.{CountedOn}
 use Rattle.recolour.proofs.Collecting.{count_none, count_more, count_skip, count_all}
 use native.Mathlib.Omega.{arith}
-use Prim.Native.Nat.{◌≤◌, ◌-◌}
-use borrow.Author.Rules.{rules}
 use Rattle.recolour.proofs.count_on.Goals as goal
 
 pub loop-i-init : goal.loop-i-init

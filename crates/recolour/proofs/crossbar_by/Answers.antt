@@ -1,7 +1,6 @@
 -- `recolour::crossbar_by` meets its contract: by the law of each label. Assumes nothing.
 use Rattle.recolour.proofs.Marking.{on_x, on_y}
 use mathlib.Core.Path.{sym}
-use borrow.Author.Rules.{rules}
 use Rattle.recolour.proofs.crossbar_by.Goals as goal
 
 pub returns-then-label-mark : goal.returns-then-label-mark

@@ -1,6 +1,5 @@
 -- `recolour::gather` meets its contract: its calls, one after another, and a dummy where the number of nets is odd. Assumes nothing.
 use Rattle.recolour.proofs.Gathering.{room_for, gathered_even, gathered_odd, dummy_fits}
-use borrow.Author.Rules.{rules}
 use Rattle.recolour.proofs.gather.Goals as goal
 
 pub collect-requires : goal.collect-requires

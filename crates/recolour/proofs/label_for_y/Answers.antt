@@ -2,7 +2,6 @@
 use Rattle.recolour.proofs.Marking.{mark_odd, mark_even}
 use native.Mathlib.Omega.{arith}
 use mathlib.Core.Path.{sym}
-use borrow.Author.Rules.{rules}
 use Rattle.recolour.proofs.label_for_y.Goals as goal
 
 pub returns-then-count-evened : goal.returns-then-count-evened

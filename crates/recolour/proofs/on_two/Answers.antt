@@ -1,7 +1,6 @@
 -- `recolour::on_two` meets its contract: the two tests, one after the other. Assumes nothing.
 use borrow.Author.Tests.{eq-eqb, ne_eqb}
 use mathlib.Core.Path.{sym}
-use borrow.Author.Rules.{rules}
 use Rattle.recolour.proofs.on_two.Goals as goal
 
 pub returns-then-crossbar-x : goal.returns-then-crossbar-x

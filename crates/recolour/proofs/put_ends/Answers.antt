@@ -1,7 +1,6 @@
 -- `recolour::put_ends` meets its contract: two stores. Assumes nothing.
 use native.Mathlib.Omega.{arith}
 use lib.ListN.{length-set}
-use borrow.Author.Rules.{rules}
 use Rattle.recolour.proofs.put_ends.Goals as goal
 
 pub bounds-s-k : goal.bounds-s-k

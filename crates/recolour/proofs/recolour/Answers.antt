@@ -1,6 +1,5 @@
 -- `recolour::recolour` meets its contract: its three steps, one after another. Assumes nothing.
 use Rattle.recolour.proofs.Recolouring.{nets_for, recoloured}
-use borrow.Author.Rules.{rules}
 use Rattle.recolour.proofs.recolour.Goals as goal
 
 pub split-requires : goal.split-requires

@@ -1,9 +1,6 @@
 -- `recolour::write_back` meets its contract: the state is `WrittenBack`, one more net each turn. Assumes nothing.
-use Rattle.recolour.specs.Steps.{WrittenBack}
 use Rattle.recolour.proofs.Writing.{write_none, write_more, write_skip, write_all}
 use native.Mathlib.Omega.{arith}
-use Prim.Native.Nat.{◌≤◌, ◌-◌}
-use borrow.Author.Rules.{rules}
 use Rattle.recolour.proofs.write_back.Goals as goal
 
 pub loop-i-init : goal.loop-i-init

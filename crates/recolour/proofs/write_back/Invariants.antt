@@ -1,7 +1,5 @@
 -- `recolour::write_back` meets its contract: the state is `WrittenBack`, one more net each turn. Assumes nothing.
 use Rattle.recolour.specs.Steps.{WrittenBack}
-use Rattle.recolour.proofs.Writing.{write_none, write_more, write_skip, write_all}
-use native.Mathlib.Omega.{arith}
 use Prim.Native.Nat.{◌≤◌, ◌-◌}
 use Rattle.recolour.proofs.write_back.Given as goal
 

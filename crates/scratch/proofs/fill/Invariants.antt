@@ -1,11 +1,8 @@
 -- `scratch::fill` meets its contract: the part passed is filled, and the rest is as it was. Assumes nothing.
-use borrow.Author.Fill.{fill_none, fill_more}
-use mathlib.Core.Path.{◌≡◌, refl, ◌∙◌}
-use mathlib.Core.List.{◌++◌, append-nil}
+use mathlib.Core.Path.{◌≡◌}
+use mathlib.Core.List.{◌++◌}
 use Prim.Native.Nat.{◌≤◌, ◌-◌}
-use lib.Seq.{drop-length}
-use native.Mathlib.Omega.{arith}
-use lib.ListN.{length, replicate, drop, length-set}
+use lib.ListN.{length, replicate, drop}
 use Rattle.scratch.proofs.fill.Given as goal
 
 abbrev pub invariant-loop-i : goal.invariant-loop-i

@@ -16,11 +16,11 @@ loop-v-init c = (omega arith, refl)
 
 pub returns-then-width_of-wide : goal.returns-then-width_of-wide
 returns-then-width_of-wide c = let l = c.loop-v in let a = c.args in
-    sym (first_less_here (job_in a.job.now).width (at a.t3) l.v _ l.invariant.1 (omega arith) (omega arith))
+    sym (first_less_here (job_in a.job.now).width (at a.count) l.v _ l.invariant.1 (omega arith) (omega arith))
 
 pub loop-v-preserved : goal.loop-v-preserved
 loop-v-preserved c = let l = c.loop-v in let a = c.args in
-    (omega arith, first_less_on (job_in a.job.now).width (at a.t3) l.v l.invariant.1 (omega arith))
+    (omega arith, first_less_on (job_in a.job.now).width (at a.count) l.v l.invariant.1 (omega arith))
 
 pub returns : goal.returns
 returns c = let l = c.loop-v in let e : l.v ≡ c.args.n = omega arith in rw (← e) (sym l.invariant.1)

@@ -6,7 +6,7 @@ use borrow.Author.Rules.{rules}
 use Rattle.sheet_calls.proofs.read_lent.Goals as goal
 
 pub returns-then-plan-head : goal.returns-then-plan-head
-returns-then-plan-head c = (c.refuse.ensures ∙ sym (refuses _ 11 _ (lt-ltb _ _ (rw c.requires.well_formed.n at c.if-plan-head.true))), rw c.refuse.ensures refl)
+returns-then-plan-head c = record { value = c.refuse.ensures ∙ sym (refuses _ 11 _ (lt-ltb _ _ (rw c.requires.well_formed.n at c.if-plan-head.true))); plan_after = rw c.refuse.ensures refl }
 
 pub returns : goal.returns
-returns c = (sym ((long_enough _ _).1 (rw c.requires.well_formed.n at c.if-plan-head.false)), c.numbers_of.ensures)
+returns c = record { value = sym ((long_enough _ _).1 (rw c.requires.well_formed.n at c.if-plan-head.false)); plan_after = c.numbers_of.ensures }

@@ -12,15 +12,15 @@ use Rattle.sheet_calls.proofs.read_sheet.Goals as goal
 pub read_lent-verdict-requires : goal.read_lent-verdict-requires
 read_lent-verdict-requires c = let e = c.audit_job-audited.ensures in
     let q = c.in-Passed.is in
-    (audit_passed _ _ _ _ e q, omega (arith, (audited _ _ (audit_done _ _ _ _ e q)).long))
+    record { well_formed = audit_passed _ _ _ _ e q; job_in_bounds = omega (arith, (audited _ _ (audit_done _ _ _ _ e q)).long) }
 
 pub returns-in-Refused : goal.returns-in-Refused
 unfolding read_sheet_verdict
-returns-in-Refused c = rw (then_refused _ _ _ (by_refused _ _ _ (sym c.audit_job-audited.ensures ∙ c.in-Refused.is))) (refl, refl)
+returns-in-Refused c = rw (then_refused _ _ _ (by_refused _ _ _ (sym c.audit_job-audited.ensures ∙ c.in-Refused.is))) (record { value = refl; plan_after = refl })
 
 pub returns-in-Passed : goal.returns-in-Passed
 unfolding read_sheet_verdict
 returns-in-Passed c = let e = c.audit_job-audited.ensures in
     let q = c.in-Passed.is in
     let w = c.read_lent-verdict.ensures in
-    rw (then_next _ _ (audit_done _ _ _ _ e q), ← w.0) (rw (audit_passed _ _ _ _ e q).n at c.written_by.ensures, w.1)
+    rw (then_next _ _ (audit_done _ _ _ _ e q), ← w.value) (record { value = rw (audit_passed _ _ _ _ e q).n at c.written_by.ensures; plan_after = w.plan_after })

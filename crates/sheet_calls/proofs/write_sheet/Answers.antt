@@ -14,9 +14,9 @@ sheet_length-requires c = check_passed _ _ c.check_job-checked.ensures _ c.in-Pa
 
 pub returns-in-Refused : goal.returns-in-Refused
 unfolding write_sheet_verdict
-returns-in-Refused c = rw (then_refused _ _ _ (check_refused _ _ c.check_job-checked.ensures _ c.in-Refused.is)) (refl, refl)
+returns-in-Refused c = rw (then_refused _ _ _ (check_refused _ _ c.check_job-checked.ensures _ c.in-Refused.is)) (record { value = refl; room_after = refl })
 
 pub returns-in-Passed : goal.returns-in-Passed
 unfolding write_sheet_verdict
 returns-in-Passed c = let w = c.write_lent-verdict.ensures in
-    rw (then_next _ _ (check_done _ _ c.check_job-checked.ensures _ c.in-Passed.is), ← w.0) (rw c.sheet_length.ensures at c.written_by.ensures, w.1)
+    rw (then_next _ _ (check_done _ _ c.check_job-checked.ensures _ c.in-Passed.is), ← w.value) (record { value = rw c.sheet_length.ensures at c.written_by.ensures; room_after = w.room_after })

@@ -9,7 +9,7 @@ returns-in-Refused c = rw (sym c.check_asked-asked.ensures ∙ c.in-Refused.is)
 
 pub left_of-requires : goal.left_of-requires
 left_of-requires c = let p = c.requires in
-    (p, (rw c.wide.ensures.0 (known _ _ _ (sym c.check_asked-asked.ensures ∙ c.in_default.is)), c.degrees.ensures))
+    record { well_formed = p; v_lt_f = (rw c.wide.ensures.0 (known _ _ _ (sym c.check_asked-asked.ensures ∙ c.in_default.is)), c.degrees.ensures) }
 
 pub returns : goal.returns
 returns c = rw (sym c.check_asked-asked.ensures ∙ c.in_default.is, c.left_of.ensures, c.wide.ensures.0)

@@ -1,6 +1,5 @@
 -- `split::colour` meets its contract: its three calls, one after another. Assumes nothing.
 use Rattle.split.proofs.Colouring.{out_asked, into_asked, both_matched, coloured}
-use borrow.Author.Rules.{rules}
 use Rattle.split.proofs.colour.Goals as goal
 
 pub pair-requires : goal.pair-requires

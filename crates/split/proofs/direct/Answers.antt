@@ -1,10 +1,7 @@
 -- `split::direct` meets its contract: the state is `Directed`, one more net each turn. Assumes nothing.
 use mathlib.Core.Path.{◌≡◌}
-use Prim.Native.Nat.{◌≤◌, ◌-◌}
 use native.Mathlib.Omega.{arith}
-use Rattle.split.specs.Stages.{Directed}
 use Rattle.split.proofs.Swapping.{direct_none, direct_turn, direct_skip}
-use borrow.Author.Rules.{rules}
 use Rattle.split.proofs.direct.Goals as goal
 
 pub loop-i-init : goal.loop-i-init
@@ -17,5 +14,5 @@ pub loop-i-preserved : goal.loop-i-preserved
 loop-i-preserved c = (omega arith, search direct_skip)
 
 pub returns : goal.returns
-returns c =    let e : c.loop-i.i ≡ c.args.k = omega arith in
+returns c = let e : c.loop-i.i ≡ c.args.k = omega arith in
     rw e at c.loop-i.invariant.1

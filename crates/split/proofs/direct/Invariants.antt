@@ -1,9 +1,6 @@
 -- `split::direct` meets its contract: the state is `Directed`, one more net each turn. Assumes nothing.
-use mathlib.Core.Path.{◌≡◌}
 use Prim.Native.Nat.{◌≤◌, ◌-◌}
-use native.Mathlib.Omega.{arith}
 use Rattle.split.specs.Stages.{Directed}
-use Rattle.split.proofs.Swapping.{direct_none, direct_turn, direct_skip}
 use Rattle.split.proofs.direct.Given as goal
 
 abbrev pub invariant-loop-i : goal.invariant-loop-i

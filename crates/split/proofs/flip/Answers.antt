@@ -1,11 +1,8 @@
 -- `split::flip` meets its contract: the state is `Flipped`, one more net each turn. Assumes nothing.
 use mathlib.Core.Path.{◌≡◌}
-use Prim.Native.Nat.{◌≤◌, ◌-◌}
 use native.Mathlib.Omega.{arith}
 use lib.ListN.{length-set}
-use Rattle.split.specs.Stages.{Flipped}
 use Rattle.split.proofs.Swapping.{flip_none, flip_more}
-use borrow.Author.Rules.{rules}
 use Rattle.split.proofs.flip.Goals as goal
 
 pub loop-i-init : goal.loop-i-init
@@ -18,5 +15,5 @@ pub loop-i-preserved : goal.loop-i-preserved
 loop-i-preserved c = (omega arith, search flip_more)
 
 pub returns : goal.returns
-returns c =    let e : c.loop-i.i ≡ c.args.k = omega arith in
+returns c = let e : c.loop-i.i ≡ c.args.k = omega arith in
     rw e at c.loop-i.invariant.1

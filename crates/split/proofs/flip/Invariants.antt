@@ -1,10 +1,6 @@
 -- `split::flip` meets its contract: the state is `Flipped`, one more net each turn. Assumes nothing.
-use mathlib.Core.Path.{◌≡◌}
 use Prim.Native.Nat.{◌≤◌, ◌-◌}
-use native.Mathlib.Omega.{arith}
-use lib.ListN.{length-set}
 use Rattle.split.specs.Stages.{Flipped}
-use Rattle.split.proofs.Swapping.{flip_none, flip_more}
 use Rattle.split.proofs.flip.Given as goal
 
 abbrev pub invariant-loop-i : goal.invariant-loop-i

@@ -1,6 +1,5 @@
 -- `split::orient` meets its contract: its four calls, one after another. Assumes nothing.
 use Rattle.split.proofs.Orienting.{ends_asked, ends_matched, oriented}
-use borrow.Author.Rules.{rules}
 use Rattle.split.proofs.orient.Goals as goal
 
 pub pair-requires : goal.pair-requires

@@ -1,6 +1,5 @@
 -- `split::split` meets its contract: its two stages, one after the other. Assumes nothing.
 use Rattle.split.proofs.Halving.{nets_now, halved}
-use borrow.Author.Rules.{rules}
 use Rattle.split.proofs.split.Goals as goal
 
 pub colour-requires : goal.colour-requires

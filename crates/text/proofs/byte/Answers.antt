@@ -1,6 +1,5 @@
 -- `text::byte` meets its contract.
 use Rattle.text.proofs.Putting.{put_none, put_one}
-use borrow.Author.Rules.{rules}
 use Rattle.text.proofs.byte.Goals as goal
 
 pub returns-then-room-at : goal.returns-then-room-at

@@ -1,11 +1,6 @@
 -- `text::digits_long` meets its contract.
-use mathlib.Core.Path.{◌≡◌}
-use Prim.Native.Nat.{◌+◌, ◌/◌, ◌≤◌, ◌<◌, ◌^◌}
 use native.Mathlib.Omega.{arith}
-use lib.ListN.{length}
-use Rattle.text.specs.Forms.{decimal}
 use Rattle.text.proofs.Decimals.{decimal_short, one_long, more_long}
-use borrow.Author.Rules.{rules}
 use Rattle.text.proofs.digits_long.Goals as goal
 
 pub loop-left-init : goal.loop-left-init

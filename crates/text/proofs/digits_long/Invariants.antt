@@ -1,10 +1,8 @@
 -- `text::digits_long` meets its contract.
 use mathlib.Core.Path.{◌≡◌}
-use Prim.Native.Nat.{◌+◌, ◌/◌, ◌≤◌, ◌<◌, ◌^◌}
-use native.Mathlib.Omega.{arith}
+use Prim.Native.Nat.{◌+◌, ◌≤◌}
 use lib.ListN.{length}
 use Rattle.text.specs.Forms.{decimal}
-use Rattle.text.proofs.Decimals.{decimal_short, one_long, more_long}
 use Rattle.text.proofs.digits_long.Given as goal
 
 abbrev pub invariant-loop-left : goal.invariant-loop-left

@@ -1,6 +1,5 @@
 -- `text::line` meets its contract.
 use Rattle.text.proofs.Forming.{whole_line}
-use borrow.Author.Rules.{rules}
 use Rattle.text.proofs.line.Goals as goal
 
 pub returns : goal.returns

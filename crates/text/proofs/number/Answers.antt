@@ -1,6 +1,5 @@
 -- `text::number` meets its contract.
 use Rattle.text.proofs.Forming.{behind_space}
-use borrow.Author.Rules.{rules}
 use Rattle.text.proofs.number.Goals as goal
 
 pub returns : goal.returns

@@ -1,12 +1,8 @@
 -- `text::numbers` meets its contract.
 use Rattle.text.proofs.Putting.{each_none, each_next, each_all}
-use Rattle.text.specs.Text.{up_to, puts, each}
-use Rattle.text.specs.Forms.{spaced}
 use lib.ListN.{length}
-use Prim.Native.Nat.{◌≤◌, ◌-◌}
-use mathlib.Core.Path.{◌≡◌, refl}
+use mathlib.Core.Path.{refl}
 use native.Mathlib.Omega.{arith}
-use Rattle.laws.specs.Row as row
 use borrow.Author.Rules.{rules}
 use Rattle.text.proofs.numbers.Goals as goal
 
@@ -14,7 +10,7 @@ pub loop-i-init : goal.loop-i-init
 loop-i-init c = (search rules, refl, refl, each_none _ _)
 
 pub loop-i-preserved : goal.loop-i-preserved
-loop-i-preserved c =    let w = c.wide.ensures.0 in
+loop-i-preserved c = let w = c.wide.ensures.0 in
     (omega arith, refl, omega arith, each_next _ _ _ _ _ c.loop-i.invariant.3 (rw w at c.number-end.ensures))
 
 pub returns : goal.returns

@@ -2,7 +2,6 @@
 use lib.Seq.{take_all, length-take-le}
 use mathlib.Core.Path.{sym}
 use native.Mathlib.Omega.{arith}
-use borrow.Author.Rules.{rules}
 use Rattle.text.proofs.so_far.Goals as goal
 
 pub returns-then-room-at : goal.returns-then-room-at

@@ -1,10 +1,8 @@
 -- `text::word` meets its contract.
 use Rattle.text.proofs.Putting.{puts_none, letter_next}
-use Rattle.text.specs.Text.{up_to, puts}
-use lib.ListN.{length, take}
+use Rattle.text.specs.Text.{puts}
 use lib.Seq.{take_all}
-use Prim.Native.Nat.{◌≤◌, ◌-◌}
-use mathlib.Core.Path.{◌≡◌, refl, ap, ◌∙◌}
+use mathlib.Core.Path.{refl, ap, ◌∙◌}
 use native.Mathlib.Omega.{arith}
 use borrow.Author.Rules.{rules}
 use Rattle.text.proofs.word.Goals as goal
@@ -13,7 +11,7 @@ pub loop-i-init : goal.loop-i-init
 loop-i-init c = (search rules, refl, refl, puts_none _)
 
 pub loop-i-preserved : goal.loop-i-preserved
-loop-i-preserved c =    let l = c.loop-i in
+loop-i-preserved c = let l = c.loop-i in
     (omega arith, refl, omega arith, letter_next _ _ _ _ l.i (omega arith) l.invariant.3 c.byte-end.ensures)
 
 pub returns : goal.returns

@@ -1,11 +1,8 @@
 -- `text::word` meets its contract.
-use Rattle.text.proofs.Putting.{puts_none, letter_next}
 use Rattle.text.specs.Text.{up_to, puts}
 use lib.ListN.{length, take}
-use lib.Seq.{take_all}
 use Prim.Native.Nat.{◌≤◌, ◌-◌}
-use mathlib.Core.Path.{◌≡◌, refl, ap, ◌∙◌}
-use native.Mathlib.Omega.{arith}
+use mathlib.Core.Path.{◌≡◌}
 use Rattle.text.proofs.word.Given as goal
 
 abbrev pub invariant-loop-i : goal.invariant-loop-i

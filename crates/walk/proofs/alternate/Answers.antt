@@ -1,8 +1,5 @@
 -- `walk::alternate` meets its contract: the state is `Visited`, one more item each turn. Assumes nothing.
-use Prim.Native.Nat.{◌-◌}
-use Rattle.walk.specs.Going.{Visited}
 use Rattle.walk.proofs.Region.{blanked, visit_more, alternated}
-use borrow.Author.Rules.{rules}
 use Rattle.walk.proofs.alternate.Goals as goal
 
 pub loop-a-init : goal.loop-a-init

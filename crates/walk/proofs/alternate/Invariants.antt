@@ -1,7 +1,6 @@
 -- `walk::alternate` meets its contract: the state is `Visited`, one more item each turn. Assumes nothing.
 use Prim.Native.Nat.{◌-◌}
 use Rattle.walk.specs.Going.{Visited}
-use Rattle.walk.proofs.Region.{blanked, visit_more, alternated}
 use Rattle.walk.proofs.alternate.Given as goal
 
 abbrev pub invariant-loop-a : goal.invariant-loop-a

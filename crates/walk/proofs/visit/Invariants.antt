@@ -4,7 +4,7 @@ use Rattle.laws.specs.Part.{part}
 use Rattle.laws.specs.Row.{at}
 use Rattle.laws.specs.Matching.{is}
 use Rattle.walk.specs.Going.{no_label}
-use Rattle.walk.proofs.Region.{Wending, wend_first, wend_again, wend_round, visit_none}
+use Rattle.walk.proofs.Region.{Wending}
 use Rattle.walk.proofs.visit.Given as goal
 
 abbrev pub invariant-loop-s : goal.invariant-loop-s

@@ -17,16 +17,16 @@ pub slice_bounds-write_behind-end : goal.slice_bounds-write_behind-end
 slice_bounds-write_behind-end c = sym (length-take-le _ _ (omega (arith, c.requires)))
 
 pub write_behind-requires : goal.write_behind-requires
-write_behind-requires c = let p = c.requires in simp length-take (omega (arith, c.copy.auto.room, p.0.0.n, p.0.0.start, p.1.1))
+write_behind-requires c = let p = c.requires in simp length-take (omega (arith, c.copy.auto.room, p.well_formed.0.n, p.well_formed.0.start, p.job_in_bounds))
 
 pub slice_bounds-write_behind-end-3 : goal.slice_bounds-write_behind-end-3
-slice_bounds-write_behind-end-3 c = let p = c.requires in sym (length-take-le _ _ (omega (arith, p.0.0.ranged.c_high, p.1.0.long)))
+slice_bounds-write_behind-end-3 c = let p = c.requires in sym (length-take-le _ _ (omega (arith, p.well_formed.0.ranged.c_high, p.counted.long)))
 
 pub write_behind-requires-3 : goal.write_behind-requires-3
 write_behind-requires-3 c = let p = c.requires in
-    simp length-take (omega (arith, c.copy.auto.room, c.write_behind.auto.room, c.write_behind-2.auto.room, c.totals_at.ensures, p.0.0.c, p.1.1))
+    simp length-take (omega (arith, c.copy.auto.room, c.write_behind.auto.room, c.write_behind-2.auto.room, c.totals_at.ensures, p.well_formed.0.c, p.job_in_bounds))
 
 pub returns : goal.returns
 returns c = let p = c.requires in
-    sheet_put _ _ p.0.0 _ _ _ _ _ _ _ p.0.1 p.1.0 c.copy.ensures c.write_behind.ensures
+    sheet_put _ _ p.well_formed.0 _ _ _ _ _ _ _ p.well_formed.1 p.counted c.copy.ensures c.write_behind.ensures
     (rw c.totals_count_at.ensures at c.write_behind-2.ensures) (rw c.totals_at.ensures at c.write_behind-3.ensures)

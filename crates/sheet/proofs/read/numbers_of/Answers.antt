@@ -14,4 +14,4 @@ pub read_list-requires : goal.read_list-requires
 read_list-requires c = simp (length-take, length-drop) (omega arith)
 
 pub returns : goal.returns
-returns c = let p = c.requires in front_read _ _ _ p.0 _ _ p.1.0 p.1.1 c.read_list.ensures
+returns c = let p = c.requires in front_read _ _ _ p.well_formed _ _ p.job_in_bounds.0 p.job_in_bounds.1 c.read_list.ensures
