@@ -10,7 +10,7 @@ returns-in-Refused c = λ ends of e. (c.check_values-verdict.ensures ends of e, 
 
 pub put_values-requires : goal.put_values-requires
 put_values-requires c = let w = c.requires in
-    (w.f-small, w.c-small, w.m-small, w.n-small, read_room _ _ _ _ w.nets.ends _ (sym (c.check_values-verdict.ensures w.nets.ends w.nets.of w.nets.is) ∙ c.in_default.is))
+    (w.f_small, w.c_small, w.m_small, w.n_small, read_room _ _ _ _ w.nets.ends _ (sym (c.check_values-verdict.ensures w.nets.ends w.nets.of w.nets.is) ∙ c.in_default.is))
 
 pub returns : goal.returns
 returns c = λ ends of e. (c.check_values-verdict.ensures ends of e, rw c.in_default.is (c.put_values.ensures ends of (lent_to_end c.args.text.now c.args.head.start ∙ e)))

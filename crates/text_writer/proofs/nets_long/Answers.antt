@@ -19,4 +19,4 @@ loop-i-preserved c = let most = line_most _ _ c.requires c.loop-i.i _ _ c.loop-i
 pub returns : goal.returns
 returns c = let l = c.loop-i in
     let none = ap length (lines_none _ _ c.requires l.i c.loop-i-test.false) in
-    (omega (arith, l.invariant.2, none), omega (arith, l.invariant.0, l.invariant.1, c.requires.ranged.n-high))
+    (omega (arith, l.invariant.2, none), omega (arith, l.invariant.0, l.invariant.1, c.requires.ranged.n_high))
