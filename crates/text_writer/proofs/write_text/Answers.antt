@@ -12,8 +12,11 @@ pub write_passed-requires : goal.write_passed-requires
 write_passed-requires c = (check_passed _ _ c.check_job-checked.ensures _ c.in-Passed.is, c.text_long-long.ensures)
 
 pub returns-in-Refused : goal.returns-in-Refused
-returns-in-Refused c = rw (job_refused _ _ _ (check_refused _ _ c.check_job-checked.ensures _ c.in-Refused.is)) (refl, refl)
+returns-in-Refused c = rw (job_refused _ _ _ (check_refused _ _ c.check_job-checked.ensures _ c.in-Refused.is)) record { value = refl; room_after = refl }
 
 pub returns-in-Passed : goal.returns-in-Passed
 returns-in-Passed c = let w = c.write_passed.ensures in let long = c.text_long-long.ensures in
-    rw (job_done _ _ (check_done _ _ c.check_job-checked.ensures _ c.in-Passed.is)) (rw (w.0, long) at c.written_by.ensures, rw (w.0, long) at w.1)
+    rw (job_done _ _ (check_done _ _ c.check_job-checked.ensures _ c.in-Passed.is)) record {
+      value = rw (w.0, long) at c.written_by.ensures;
+      room_after = rw (w.0, long) at w.1;
+    }

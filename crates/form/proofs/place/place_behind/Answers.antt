@@ -7,15 +7,17 @@ use lib.ListN.{length}
 use Rattle.form.proofs.Places.{Reached, reached_none, past_newline, past_other, reached_all}
 use borrow.Author.Rules.{rules}
 use Rattle.form.proofs.place.place_behind.Goals as goal
+use Rattle.form.proofs.place.place_behind.Goals.{then-read-i-eq10, else-read-i-eq10}
 
 pub loop-i-init : goal.loop-i-init
 loop-i-init c = (omega arith, refl, reached_none _)
 
 pub loop-i-preserved : goal.loop-i-preserved
-loop-i-preserved c = ⊎_elim
-    (λ p. rw (p.1, p.2) (omega arith, omega arith, past_newline _ _ _ c.loop-i.i (omega arith) c.loop-i.invariant.2 p.0.taken))
-    (λ p. rw (p.1, p.2) (omega arith, omega arith, past_other _ _ _ c.loop-i.i (omega arith) c.loop-i.invariant.2 p.0.left))
-    c.if-read-i-eq10.branch
+loop-i-preserved c =
+    elim c.if-read-i-eq10.branch [
+      then-read-i-eq10 w ↦ rw (w.line-is, w.byte-is) (omega arith, refl, past_newline _ _ _ c.loop-i.i (omega arith) c.loop-i.invariant.2 w.if-read-i-eq10.true)
+    | else-read-i-eq10 w ↦ rw (w.line-is, w.byte-is) (omega arith, refl, past_other _ _ _ c.loop-i.i (omega arith) c.loop-i.invariant.2 w.if-read-i-eq10.false)
+    ]
 
 pub returns : goal.returns
 returns c = let l = c.loop-i in sym (reached_all _ _ _ l.i (omega arith) l.invariant.2)
