@@ -5,4 +5,4 @@ use borrow.Author.Rules.{rules}
 use Rattle.hogvuldur_c.proofs.hogvuldur_write_sheet.Goals as goal
 
 pub returns : goal.returns
-returns c = let e = c.write_sheet.ensures in (c.tell_written.ensures ∙ ap written_in_c e.0, e.1)
+returns c = let e = c.write_sheet.ensures in record { answer_after = c.tell_written.ensures ∙ ap written_in_c e.value; room_after = e.room_after }
