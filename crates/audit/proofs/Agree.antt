@@ -7,7 +7,7 @@ use native.Mathlib.Omega.{arith}
 use lib.ListN.{length, get_or, take, drop, take-append-drop, length-drop, drop_of_length-le}
 use lib.Seq.{ext_get_or, get_or-take, get_or-drop, length-take-le}
 use borrow.Author.Tests.{eqb-true, not-false}
-use Rattle.laws.specs.Row.{at, row}
+use Rattle.laws.specs.Row.{row}
 use Rattle.laws.proofs.Row.{row_same}
 use Rattle.laws.proofs.Cases.{by_same}
 use Rattle.words.specs.declared.Verdict.TheVariants.{Done}

@@ -22,7 +22,7 @@ use Rattle.sheet.specs.Sheet.{sheet_length}
 use Rattle.fit.specs.Fit.{loads_verdict, spread_verdict, fit_verdict}
 use Rattle.audit.specs.Audit.{heads_verdict, totals_verdict, numbers_verdict, against_verdict}
 use Rattle.evidence.specs.declared.Fault.{Fault}
-use Rattle.evidence.specs.Evidence.{nothing, job_fault, sheet_fault, fault_of, audit_fault}
+use Rattle.evidence.specs.Evidence.{job_fault, sheet_fault, fault_of, audit_fault}
 
 abbrev pub Inside : List ℕ → List ℕ → Fault → Type 0
 Inside job sheet e = e.start + e.long ≤ length (cond e.sheet sheet job)

@@ -11,7 +11,7 @@ use Rattle.laws.specs.Row.{at}
 use Rattle.laws.specs.Count.{Counted}
 use Rattle.laws.proofs.Greatest.{greatest_ge, greatest_le, greatest_same}
 use Rattle.words.specs.declared.Verdict.TheVariants.{Done}
-use Rattle.words.specs.Verdict.{refuse, refuse_if, ◌then◌, first_refusal, at_load, at_crossbar}
+use Rattle.words.specs.Verdict.{refuse, refuse_if, first_refusal, at_load, at_crossbar}
 use Rattle.words.proofs.Order.{first_done, first_all, first_same, first_stops, tested, tests_pass, tests_say, tests_stop, then_first, then_second, then_done}
 use Rattle.board.specs.Netlist.{Netlist}
 use Rattle.board.specs.Board.{total, Legal, Balanced, Alike}

@@ -18,7 +18,6 @@ use Rattle.text.proofs.Putting.{puts_whole}
 use Rattle.text.proofs.Lengths.{spaced_short, each_short, line_short}
 use Rattle.lines.specs.Lines.{board_word, net_word, crossbar_word, board_line, rounds_line, net_line, crossbar_line}
 use Rattle.list.specs.Listing.{plan_lines, listing_of, listing_long, Listed}
-use Rattle.words.specs.declared.Verdict.TheVariants as verdict
 
 -- at most four numbers below 10,000
 few : (k p q r s : ℕ) → p < 10000 → q < 10000 → r < 10000 → s < 10000 → k < 4 → at (p ∷ q ∷ r ∷ s ∷ []) k < 10000

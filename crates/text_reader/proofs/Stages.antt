@@ -6,7 +6,7 @@ use Prim.Native.Nat.{ℕ, ◌≤◌, ◌<◌}
 use borrow.Author.Tests.{lt-ltb}
 use Rattle.words.specs.declared.Refusal.{Refusal}
 use Rattle.words.specs.declared.Verdict.TheVariants.{Done, Refused}
-use Rattle.words.specs.Verdict.{refuse, too_short, ◌then◌, nowhere}
+use Rattle.words.specs.Verdict.{refuse, too_short, nowhere}
 use Rattle.words.proofs.Order.{then_first, then_second, then_refused, then_next, refuses, long_enough}
 use Rattle.job.specs.Job.{head_long}
 use Rattle.job.specs.Check.{ranges_verdict, nets_verdict}

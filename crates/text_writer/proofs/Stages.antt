@@ -6,7 +6,7 @@ use Prim.Native.Nat.{ℕ}
 use lib.ListN.{length}
 use Rattle.words.specs.declared.Refusal.{Refusal}
 use Rattle.words.specs.declared.Verdict.TheVariants.{Done, Refused}
-use Rattle.words.specs.Verdict.{too_short, ◌then◌}
+use Rattle.words.specs.Verdict.{too_short}
 use Rattle.words.proofs.Order.{then_refused, then_next}
 use Rattle.job.specs.Check.{job_verdict}
 use Rattle.text_writer.specs.WriteText.{text_in, write_text_verdict}

@@ -1,6 +1,5 @@
 -- `evidence::evidence` meets its contract.
 use Rattle.evidence.proofs.Inside.{audit_inside}
-use borrow.Author.Rules.{rules}
 use Rattle.evidence.proofs.evidence.Goals as goal
 
 pub stretch-requires : goal.stretch-requires

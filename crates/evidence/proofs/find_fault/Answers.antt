@@ -1,7 +1,6 @@
 -- `evidence::find_fault` meets its contract.
 use Rattle.job.proofs.Passing.{check_refused, check_done, check_passed}
 use mathlib.Core.Path.{sym, ◌∙◌}
-use borrow.Author.Rules.{rules}
 use Rattle.evidence.proofs.find_fault.Goals as goal
 
 pub check_sheet-verdict-requires : goal.check_sheet-verdict-requires

@@ -1,7 +1,6 @@
 -- `evidence::job_fault` meets its contract.
 use Rattle.evidence.proofs.Pointing.{one_of_9, one_of_27, both_of_10, job_elsewhere}
 use mathlib.Core.Path.{sym, ◌∙◌}
-use borrow.Author.Rules.{rules}
 use Rattle.evidence.proofs.job_fault.Goals as goal
 
 pub returns-then-number-eq9 : goal.returns-then-number-eq9

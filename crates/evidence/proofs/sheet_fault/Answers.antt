@@ -2,7 +2,6 @@
 use Rattle.evidence.specs.Evidence.{sheet_fault}
 use Rattle.evidence.proofs.Pointing.{sheet_elsewhere}
 use mathlib.Core.Path.{sym, ◌∙◌}
-use borrow.Author.Rules.{rules}
 use Rattle.evidence.proofs.sheet_fault.Goals as goal
 
 pub returns-in-Byte : goal.returns-in-Byte

@@ -1,7 +1,6 @@
 -- `evidence::stretch` meets its contract.
 use Rattle.words.proofs.Stretches.{stretch_part}
 use native.Mathlib.Omega.{arith}
-use borrow.Author.Rules.{rules}
 use Rattle.evidence.proofs.stretch.Goals as goal
 
 pub returns : goal.returns

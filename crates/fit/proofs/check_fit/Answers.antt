@@ -8,7 +8,6 @@ use Rattle.fit.proofs.Parts.{counted_spread}
 use native.Mathlib.Omega.{arith}
 use Prim.Native.Nat.{ℕ}
 use mathlib.Core.Path.{◌≡◌, refl, sym, ◌∙◌}
-use borrow.Author.Rules.{rules}
 use Rattle.fit.proofs.check_fit.Goals as goal
 
 pub returns-in-Refused : goal.returns-in-Refused

@@ -2,7 +2,6 @@
 use Rattle.search.proofs.Answers.{settled-legal, over-lowest}
 use Rattle.fit.proofs.Parts.{loads_say, loads_stop}
 use mathlib.Core.Path.{sym, ◌∙◌}
-use borrow.Author.Rules.{rules}
 use Rattle.fit.proofs.check_loads.Goals as goal
 
 pub returns-in-Settled : goal.returns-in-Settled

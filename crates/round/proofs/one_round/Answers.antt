@@ -2,7 +2,6 @@
 use Rattle.round.proofs.Calling.{one_refused, one_settled, one_moved}
 use Rattle.refusals.proofs.Starting.{start_ready}
 use native.Mathlib.Omega.{arith}
-use borrow.Author.Rules.{rules}
 use Rattle.round.proofs.one_round.Goals as goal
 
 pub step-found-requires : goal.step-found-requires

@@ -1,7 +1,5 @@
 -- `search::first_above` meets its contract.
 use mathlib.Core.Path.{◌≡◌, refl, sym}
-use Prim.Native.Nat.{◌≤◌, ◌-◌}
-use lib.Dec.{ltb}
 use native.Mathlib.Omega.{arith}
 use Rattle.laws.proofs.FirstWhere.{first_less_here, first_less_on}
 use Rattle.laws.specs.Row.{at}

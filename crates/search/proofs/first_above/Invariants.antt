@@ -1,9 +1,7 @@
 -- `search::first_above` meets its contract.
-use mathlib.Core.Path.{◌≡◌, refl, sym}
+use mathlib.Core.Path.{◌≡◌}
 use Prim.Native.Nat.{◌≤◌, ◌-◌}
 use lib.Dec.{ltb}
-use native.Mathlib.Omega.{arith}
-use Rattle.laws.proofs.FirstWhere.{first_less_here, first_less_on}
 use Rattle.laws.specs.Row.{at}
 use Rattle.laws.specs.Lowest.{first_where}
 use Rattle.search.proofs.first_above.Given as goal

@@ -3,11 +3,8 @@ use Rattle.laws.proofs.FirstWhere.{first_less_here, first_less_on}
 use Rattle.laws.specs.Row.{at}
 use Rattle.laws.specs.Lowest.{first_where}
 use Rattle.job.specs.Job.{job_in}
-use lib.Dec.{ltb}
 use native.Mathlib.Omega.{arith}
-use Prim.Native.Nat.{◌≤◌, ◌-◌}
 use mathlib.Core.Path.{◌≡◌, refl, sym}
-use borrow.Author.Rules.{rules}
 use Rattle.search.proofs.first_over.Goals as goal
 
 pub loop-v-init : goal.loop-v-init

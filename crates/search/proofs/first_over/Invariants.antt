@@ -1,12 +1,10 @@
 -- `search::first_over` meets its contract.
-use Rattle.laws.proofs.FirstWhere.{first_less_here, first_less_on}
 use Rattle.laws.specs.Row.{at}
 use Rattle.laws.specs.Lowest.{first_where}
 use Rattle.job.specs.Job.{job_in}
 use lib.Dec.{ltb}
-use native.Mathlib.Omega.{arith}
 use Prim.Native.Nat.{◌≤◌, ◌-◌}
-use mathlib.Core.Path.{◌≡◌, refl, sym}
+use mathlib.Core.Path.{◌≡◌}
 use Rattle.search.proofs.first_over.Given as goal
 
 abbrev pub invariant-loop-v : goal.invariant-loop-v

@@ -1,12 +1,7 @@
 -- `search::lowest_over` meets its contract.
 use Rattle.search.proofs.Counters.{lowest_starts, lowest_fits, lowest_next, lowest_all}
-use Rattle.search.specs.Columns.{fpga_below}
-use Rattle.laws.specs.Row.{at}
-use Rattle.job.specs.Job.{job_in}
 use native.Mathlib.Omega.{arith}
-use Prim.Native.Nat.{◌≤◌, ◌-◌}
-use mathlib.Core.Path.{◌≡◌, ◌∙◌}
-use borrow.Author.Rules.{rules}
+use mathlib.Core.Path.{◌∙◌}
 use Rattle.search.proofs.lowest_over.Goals as goal
 
 pub loop-x-init : goal.loop-x-init

@@ -1,11 +1,9 @@
 -- `search::lowest_over` meets its contract.
-use Rattle.search.proofs.Counters.{lowest_starts, lowest_fits, lowest_next, lowest_all}
 use Rattle.search.specs.Columns.{fpga_below}
 use Rattle.laws.specs.Row.{at}
 use Rattle.job.specs.Job.{job_in}
-use native.Mathlib.Omega.{arith}
 use Prim.Native.Nat.{◌≤◌, ◌-◌}
-use mathlib.Core.Path.{◌≡◌, ◌∙◌}
+use mathlib.Core.Path.{◌≡◌}
 use Rattle.search.proofs.lowest_over.Given as goal
 
 abbrev pub invariant-loop-x : goal.invariant-loop-x

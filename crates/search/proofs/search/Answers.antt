@@ -1,7 +1,6 @@
 -- `search::search` meets its contract.
 use Rattle.search.proofs.Counters.{search_settled, crossbar_fits, search_over}
 use native.Mathlib.Omega.{arith}
-use borrow.Author.Rules.{rules}
 use Rattle.search.proofs.search.Goals as goal
 
 pub returns-then-head-v : goal.returns-then-head-v

@@ -6,7 +6,6 @@ use Rattle.sheet.specs.Sheet.{sheet_length}
 use Rattle.audit.specs.Audit.{lent_verdict}
 use native.Mathlib.Omega.{arith}
 use mathlib.Core.Path.{sym, ◌∙◌}
-use borrow.Author.Rules.{rules}
 use Rattle.sheet_calls.proofs.check_lent.Goals as goal
 
 pub returns-then-plan_length-head : goal.returns-then-plan_length-head

@@ -2,7 +2,6 @@
 use borrow.Author.Tests.{lt-ltb}
 use Rattle.words.proofs.Order.{refuses, long_enough}
 use mathlib.Core.Path.{refl, sym, ◌∙◌}
-use borrow.Author.Rules.{rules}
 use Rattle.sheet_calls.proofs.read_lent.Goals as goal
 
 pub returns-then-plan-head : goal.returns-then-plan-head

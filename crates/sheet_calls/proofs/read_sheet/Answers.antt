@@ -6,7 +6,6 @@ use Rattle.audit.proofs.Agree.{audited}
 use Rattle.sheet_calls.proofs.Answered.{audit_done, audit_passed}
 use native.Mathlib.Omega.{arith}
 use mathlib.Core.Path.{refl, sym, ◌∙◌}
-use borrow.Author.Rules.{rules}
 use Rattle.sheet_calls.proofs.read_sheet.Goals as goal
 
 pub read_lent-verdict-requires : goal.read_lent-verdict-requires

@@ -1,6 +1,5 @@
 -- `sheet_calls::write_fit` meets its contract.
 use mathlib.Core.Path.{sym}
-use borrow.Author.Rules.{rules}
 use Rattle.sheet_calls.proofs.write_fit.Goals as goal
 
 pub returns-in-Refused : goal.returns-in-Refused

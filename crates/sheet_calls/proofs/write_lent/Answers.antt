@@ -2,7 +2,6 @@
 use Rattle.words.proofs.Order.{then_refused, then_next, then_first, then_second, long_enough}
 use Rattle.audit.specs.Audit.{lent_verdict}
 use mathlib.Core.Path.{sym, ◌∙◌}
-use borrow.Author.Rules.{rules}
 use Rattle.sheet_calls.proofs.write_lent.Goals as goal
 
 pub returns-in-Refused : goal.returns-in-Refused

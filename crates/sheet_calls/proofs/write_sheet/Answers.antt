@@ -2,8 +2,7 @@
 use Rattle.words.proofs.Order.{then_refused, then_next}
 use Rattle.job.proofs.Passing.{check_refused, check_done, check_passed}
 use Rattle.audit.specs.Audit.{write_sheet_verdict}
-use mathlib.Core.Path.{refl, sym, ◌∙◌}
-use borrow.Author.Rules.{rules}
+use mathlib.Core.Path.{refl}
 use Rattle.sheet_calls.proofs.write_sheet.Goals as goal
 
 pub write_lent-verdict-requires : goal.write_lent-verdict-requires

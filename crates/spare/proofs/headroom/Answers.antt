@@ -2,7 +2,6 @@
 use Rattle.spare.proofs.Rooms.{job_refused, job_passed, job_fits}
 use Rattle.refusals.specs.Asked.{headroom_verdict}
 use mathlib.Core.Path.{sym, ◌∙◌}
-use borrow.Author.Rules.{rules}
 use Rattle.spare.proofs.headroom.Goals as goal
 
 pub headroom_in-requires : goal.headroom_in-requires

@@ -2,7 +2,6 @@
 use Rattle.refusals.proofs.Asking.{both_known}
 use Rattle.spare.specs.Spare.{headroom_of}
 use mathlib.Core.Path.{sym, ◌∙◌}
-use borrow.Author.Rules.{rules}
 use Rattle.spare.proofs.headroom_in.Goals as goal
 
 pub returns-in-Refused : goal.returns-in-Refused

@@ -1,7 +1,6 @@
 -- `spare::left_of` meets its contract.
 use Rattle.spare.proofs.Rooms.{counted_within, left_is}
 use native.Mathlib.Omega.{arith}
-use borrow.Author.Rules.{rules}
 use Rattle.spare.proofs.left_of.Goals as goal
 
 pub overflow_sub-result : goal.overflow_sub-result

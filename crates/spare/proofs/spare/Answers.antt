@@ -2,7 +2,6 @@
 use Rattle.spare.proofs.Rooms.{job_refused, job_passed, job_fits}
 use Rattle.refusals.specs.Asked.{spare_verdict}
 use mathlib.Core.Path.{sym, ◌∙◌}
-use borrow.Author.Rules.{rules}
 use Rattle.spare.proofs.spare.Goals as goal
 
 pub spare_in-requires : goal.spare_in-requires

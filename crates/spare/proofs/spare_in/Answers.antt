@@ -1,7 +1,6 @@
 -- `spare::spare_in` meets its contract.
 use Rattle.refusals.proofs.Asking.{known}
 use mathlib.Core.Path.{sym, ◌∙◌}
-use borrow.Author.Rules.{rules}
 use Rattle.spare.proofs.spare_in.Goals as goal
 
 pub returns-in-Refused : goal.returns-in-Refused

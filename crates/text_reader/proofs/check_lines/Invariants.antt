@@ -1,9 +1,7 @@
 -- `text_reader::check_lines` meets its contract.
-use mathlib.Core.Path.{sym, ◌∙◌}
 use Prim.Native.Nat.{◌-◌, ◌≤◌}
-use native.Mathlib.Omega.{arith}
 use lib.ListN.{length}
-use Rattle.text_reader.proofs.Walking.{Checked, line_here, past_line, none_checked, one_checked, one_refused, all_checked}
+use Rattle.text_reader.proofs.Walking.{Checked}
 use Rattle.text_reader.proofs.check_lines.Given as goal
 
 abbrev pub invariant-loop-i : goal.invariant-loop-i

@@ -4,7 +4,6 @@ use native.Mathlib.Omega.{arith}
 use Rattle.words.proofs.Bytes.{lent_to_end}
 use Rattle.job.proofs.Stages.{ranged}
 use Rattle.text_reader.proofs.Stages.{by_ranges, by_lines, too_little, all_done}
-use borrow.Author.Rules.{rules}
 use Rattle.text_reader.proofs.check_values.Goals as goal
 
 pub returns-in-Refused : goal.returns-in-Refused

@@ -1,14 +1,7 @@
 -- `text_reader::put_values` meets its contract.
-use mathlib.Core.Path.{◌≡◌, refl}
-use Prim.Native.Nat.{◌-◌, ◌≤◌}
+use mathlib.Core.Path.{refl}
 use native.Mathlib.Omega.{arith}
-use lib.ListN.{length}
-use mathlib.Core.List.{List}
-use Prim.Native.Nat.{ℕ}
-use Rattle.words.specs.Lent.{onto}
-use Rattle.job_writer.specs.Write.{head_of}
-use Rattle.text_reader.proofs.Walking.{Wrote, line_here, past_line, none_wrote, one_wrote, all_wrote}
-use borrow.Author.Rules.{rules}
+use Rattle.text_reader.proofs.Walking.{line_here, past_line, none_wrote, one_wrote, all_wrote}
 use Rattle.text_reader.proofs.put_values.Goals as goal
 
 pub loop-i-init : goal.loop-i-init

@@ -4,7 +4,6 @@ use Rattle.form.specs.declared.Formed.{Formed}
 use Rattle.form.specs.Walk.{FormedBy}
 use Rattle.form.proofs.Whole.{whole_in_form, whole_is}
 use Rattle.text_reader.specs.ReadText.{ReadText}
-use borrow.Author.Rules.{rules}
 use Rattle.text_reader.proofs.read_text.Goals as goal
 
 pub read_whole-requires : goal.read_whole-requires

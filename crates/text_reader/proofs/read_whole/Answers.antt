@@ -2,7 +2,6 @@
 use mathlib.Core.Path.{sym, ◌∙◌}
 use Rattle.words.proofs.Bytes.{lent_to_end}
 use Rattle.text_reader.proofs.Stages.{read_room}
-use borrow.Author.Rules.{rules}
 use Rattle.text_reader.proofs.read_whole.Goals as goal
 
 pub returns-in-Refused : goal.returns-in-Refused

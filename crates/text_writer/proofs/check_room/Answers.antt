@@ -2,7 +2,6 @@
 use mathlib.Core.Path.{sym, ◌∙◌}
 use borrow.Author.Tests.{lt-ltb}
 use Rattle.words.proofs.Order.{refuses, long_enough}
-use borrow.Author.Rules.{rules}
 use Rattle.text_writer.proofs.check_room.Goals as goal
 
 pub returns-then-room_length-long : goal.returns-then-room_length-long

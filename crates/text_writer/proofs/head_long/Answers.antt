@@ -1,7 +1,6 @@
 -- `text_writer::head_long` meets its contract.
 use native.Mathlib.Omega.{arith}
 use Rattle.form.proofs.Most.{head_text_long}
-use borrow.Author.Rules.{rules}
 use Rattle.text_writer.proofs.head_long.Goals as goal
 
 pub returns : goal.returns

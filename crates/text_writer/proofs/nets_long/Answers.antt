@@ -1,12 +1,8 @@
 -- `text_writer::nets_long` meets its contract.
-use mathlib.Core.Path.{◌≡◌, ap}
-use Prim.Native.Nat.{◌+◌, ◌*◌, ◌-◌, ◌≤◌}
+use mathlib.Core.Path.{ap}
 use native.Mathlib.Omega.{arith}
-use lib.ListN.{length, drop}
-use Rattle.job.specs.Job.{nets_in}
-use Rattle.form.specs.Form.{nets_text}
+use lib.ListN.{length}
 use Rattle.text_writer.proofs.Long.{lines_none, line_most, lines_long}
-use borrow.Author.Rules.{rules}
 use Rattle.text_writer.proofs.nets_long.Goals as goal
 
 pub loop-i-init : goal.loop-i-init

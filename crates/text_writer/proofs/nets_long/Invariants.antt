@@ -1,11 +1,9 @@
 -- `text_writer::nets_long` meets its contract.
-use mathlib.Core.Path.{◌≡◌, ap}
+use mathlib.Core.Path.{◌≡◌}
 use Prim.Native.Nat.{◌+◌, ◌*◌, ◌-◌, ◌≤◌}
-use native.Mathlib.Omega.{arith}
 use lib.ListN.{length, drop}
 use Rattle.job.specs.Job.{nets_in}
 use Rattle.form.specs.Form.{nets_text}
-use Rattle.text_writer.proofs.Long.{lines_none, line_most, lines_long}
 use Rattle.text_writer.proofs.nets_long.Given as goal
 
 abbrev pub invariant-loop-i : goal.invariant-loop-i

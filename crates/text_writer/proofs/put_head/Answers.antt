@@ -1,6 +1,5 @@
 -- `text_writer::put_head` meets its contract.
 use Rattle.text_writer.proofs.Putting.{head_put}
-use borrow.Author.Rules.{rules}
 use Rattle.text_writer.proofs.put_head.Goals as goal
 
 pub returns : goal.returns

@@ -1,15 +1,10 @@
 -- `text_writer::put_nets` meets its contract.
-use mathlib.Core.Path.{◌≡◌, refl, ap, ◌∙◌, sym}
-use Prim.Native.Nat.{◌*◌, ◌-◌, ◌≤◌}
+use mathlib.Core.Path.{refl, ap, ◌∙◌, sym}
 use native.Mathlib.Omega.{arith}
-use lib.ListN.{length, drop}
-use Rattle.job.specs.Job.{nets_in}
-use Rattle.text.specs.Text.{up_to, puts}
+use Rattle.text.specs.Text.{puts}
 use Rattle.text.proofs.Putting.{puts_none}
-use Rattle.form.specs.Form.{nets_text}
 use Rattle.text_writer.proofs.Long.{lines_of, lines_none}
 use Rattle.text_writer.proofs.Putting.{line_put, line_done}
-use borrow.Author.Rules.{rules}
 use Rattle.text_writer.proofs.put_nets.Goals as goal
 
 pub loop-i-init : goal.loop-i-init

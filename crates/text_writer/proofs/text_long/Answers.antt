@@ -1,7 +1,6 @@
 -- `text_writer::text_long` meets its contract.
 use native.Mathlib.Omega.{arith}
 use Rattle.text_writer.proofs.Long.{text_long}
-use borrow.Author.Rules.{rules}
 use Rattle.text_writer.proofs.text_long.Goals as goal
 
 pub returns : goal.returns

@@ -5,7 +5,6 @@ use lib.ListN.{length}
 use Rattle.words.proofs.Order.{long_enough}
 use Rattle.text_writer.proofs.Long.{text_is}
 use Rattle.text_writer.proofs.Putting.{text_put}
-use borrow.Author.Rules.{rules}
 use Rattle.text_writer.proofs.write_passed.Goals as goal
 
 pub returns-in-Refused : goal.returns-in-Refused

@@ -2,7 +2,6 @@
 use mathlib.Core.Path.{refl}
 use Rattle.job.proofs.Passing.{check_refused, check_done, check_passed}
 use Rattle.text_writer.proofs.Stages.{job_refused, job_done}
-use borrow.Author.Rules.{rules}
 use Rattle.text_writer.proofs.write_text.Goals as goal
 
 pub text_long-long-requires : goal.text_long-long-requires

@@ -1,5 +1,4 @@
 -- `words::written_by` meets its contract.
-use borrow.Author.Rules.{rules}
 use Rattle.words.proofs.written_by.Goals as goal
 
 pub returns-in-Done : goal.returns-in-Done

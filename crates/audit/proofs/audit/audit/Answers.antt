@@ -1,7 +1,6 @@
 -- `audit::audit::audit` meets its contract.
 use Rattle.job.proofs.Passing.{by_refused, by_passed}
 use mathlib.Core.Path.{sym, ◌∙◌}
-use borrow.Author.Rules.{rules}
 use Rattle.audit.proofs.audit.audit.Goals as goal
 
 pub returns-in-Passed : goal.returns-in-Passed

@@ -2,7 +2,6 @@
 use Rattle.job.proofs.Passing.{stage_refused, stage_passed, check_passed}
 use Rattle.audit.specs.Audit.{audit_verdict}
 use mathlib.Core.Path.{sym, ◌∙◌}
-use borrow.Author.Rules.{rules}
 use Rattle.audit.proofs.audit.audit_job.Goals as goal
 
 pub returns-in_default : goal.returns-in_default

@@ -5,7 +5,6 @@ use Rattle.fit.proofs.Parts.{fit_alike}
 use Rattle.audit.specs.Audit.{numbers_verdict}
 use Rattle.audit.proofs.Parts.{counted_totals, totals_alike}
 use mathlib.Core.Path.{sym, ◌∙◌}
-use borrow.Author.Rules.{rules}
 use Rattle.audit.proofs.audit.check_numbers.Goals as goal
 
 pub returns-in-Refused : goal.returns-in-Refused

@@ -3,7 +3,6 @@ use Rattle.words.proofs.Order.{then_refused, then_next}
 use Rattle.audit.proofs.Parts.{wrong_length, right_length}
 use native.Mathlib.Omega.{arith}
 use mathlib.Core.Path.{sym, ◌∙◌}
-use borrow.Author.Rules.{rules}
 use Rattle.audit.proofs.audit.check_sheet.Goals as goal
 
 pub returns-then-sheet-sheet_length : goal.returns-then-sheet-sheet_length

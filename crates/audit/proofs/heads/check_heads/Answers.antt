@@ -1,14 +1,9 @@
 -- `audit::heads::check_heads` meets its contract.
-use Rattle.words.specs.declared.Verdict.TheVariants.{Done}
-use Rattle.words.specs.Verdict.{at_byte}
 use Rattle.words.specs.Number.{word}
-use Rattle.words.proofs.Order.{tested, tests_start}
-use Rattle.audit.specs.Audit.{unlike}
+use Rattle.words.proofs.Order.{tests_start}
 use Rattle.audit.proofs.Parts.{unlike_passes, unlike_stops, count_off, heads_same}
 use native.Mathlib.Omega.{arith}
-use Prim.Native.Nat.{◌≤◌, ◌-◌, ◌*◌, ◌/◌}
-use mathlib.Core.Path.{◌≡◌, ap, sym, ◌∙◌}
-use borrow.Author.Rules.{rules}
+use mathlib.Core.Path.{ap, sym, ◌∙◌}
 use Rattle.audit.proofs.heads.check_heads.Goals as goal
 
 pub loop-k-init : goal.loop-k-init

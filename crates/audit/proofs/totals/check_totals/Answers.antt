@@ -1,15 +1,9 @@
 -- `audit::totals::check_totals` meets its contract.
-use Rattle.words.specs.declared.Verdict.TheVariants.{Done}
-use Rattle.words.specs.Verdict.{at_crossbar}
-use Rattle.words.specs.Number.{word}
-use Rattle.words.proofs.Order.{tested, tests_start}
-use Rattle.laws.specs.Row.{at}
-use Rattle.audit.specs.Audit.{wrong, totals_verdict}
+use Rattle.words.proofs.Order.{tests_start}
+use Rattle.audit.specs.Audit.{totals_verdict}
 use Rattle.audit.proofs.Parts.{wrong_passes, wrong_stops}
 use native.Mathlib.Omega.{arith}
-use Prim.Native.Nat.{◌≤◌, ◌-◌, ◌+◌, ◌*◌}
 use mathlib.Core.Path.{◌≡◌, sym, ◌∙◌}
-use borrow.Author.Rules.{rules}
 use Rattle.audit.proofs.totals.check_totals.Goals as goal
 
 pub loop-x-init : goal.loop-x-init

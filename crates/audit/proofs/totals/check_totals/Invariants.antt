@@ -2,13 +2,11 @@
 use Rattle.words.specs.declared.Verdict.TheVariants.{Done}
 use Rattle.words.specs.Verdict.{at_crossbar}
 use Rattle.words.specs.Number.{word}
-use Rattle.words.proofs.Order.{tested, tests_start}
+use Rattle.words.proofs.Order.{tested}
 use Rattle.laws.specs.Row.{at}
-use Rattle.audit.specs.Audit.{wrong, totals_verdict}
-use Rattle.audit.proofs.Parts.{wrong_passes, wrong_stops}
-use native.Mathlib.Omega.{arith}
+use Rattle.audit.specs.Audit.{wrong}
 use Prim.Native.Nat.{◌≤◌, ◌-◌, ◌+◌, ◌*◌}
-use mathlib.Core.Path.{◌≡◌, sym, ◌∙◌}
+use mathlib.Core.Path.{◌≡◌}
 use Rattle.audit.proofs.totals.check_totals.Given as goal
 
 abbrev pub invariant-loop-x : goal.invariant-loop-x

@@ -1,7 +1,6 @@
 -- `finish::calls::finish` meets its contract.
 use Rattle.finish.proofs.Answering.{finish_refused, finish_done}
 use Rattle.refusals.proofs.Starting.{start_ready}
-use borrow.Author.Rules.{rules}
 use Rattle.finish.proofs.calls.finish.Goals as goal
 
 pub settle-requires : goal.settle-requires

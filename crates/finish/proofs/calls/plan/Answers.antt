@@ -1,7 +1,6 @@
 -- `finish::calls::plan` meets its contract.
 use Rattle.finish.proofs.Answering.{plan_refused, plan_ready, plan_done}
 use Rattle.refusals.proofs.Starting.{plan_fits}
-use borrow.Author.Rules.{rules}
 use Rattle.finish.proofs.calls.plan.Goals as goal
 
 pub deal-requires : goal.deal-requires

@@ -1,12 +1,9 @@
 -- `finish::deal::deal` meets its contract.
 use Rattle.finish.proofs.Dealing.{dealt_none, dealt_more}
-use Rattle.finish.specs.Plan.{dealt_up_to}
 use Rattle.job.specs.Job.{job_in}
 use native.Mathlib.Omega.{arith}
-use lib.ListN.{length, length-set}
-use Prim.Native.Nat.{◌≤◌, ◌-◌}
+use lib.ListN.{length-set}
 use mathlib.Core.Path.{◌≡◌, refl}
-use borrow.Author.Rules.{rules}
 use Rattle.finish.proofs.deal.deal.Goals as goal
 
 pub loop-i-init : goal.loop-i-init

@@ -1,11 +1,9 @@
 -- `finish::deal::deal` meets its contract.
-use Rattle.finish.proofs.Dealing.{dealt_none, dealt_more}
 use Rattle.finish.specs.Plan.{dealt_up_to}
 use Rattle.job.specs.Job.{job_in}
-use native.Mathlib.Omega.{arith}
-use lib.ListN.{length, length-set}
+use lib.ListN.{length}
 use Prim.Native.Nat.{◌≤◌, ◌-◌}
-use mathlib.Core.Path.{◌≡◌, refl}
+use mathlib.Core.Path.{◌≡◌}
 use Rattle.finish.proofs.deal.deal.Given as goal
 
 abbrev pub invariant-loop-i : goal.invariant-loop-i

@@ -1,10 +1,8 @@
 -- `finish::rounds::rounds` meets its contract.
-use native.Mathlib.Omega.{arith}
 use Rattle.laws.specs.Row.{at}
 use Rattle.job.specs.Job.{job_in}
 use Rattle.board.specs.Board.{total_excess}
 use Rattle.finish.specs.Finish.{Chained}
-use Rattle.finish.proofs.Settling.{chained_none, chained_enough, chained_more, chained_less, chained_settled}
 use Rattle.finish.proofs.rounds.rounds.Given as goal
 
 abbrev pub invariant-loop-k : goal.invariant-loop-k

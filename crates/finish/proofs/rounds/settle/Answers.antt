@@ -1,6 +1,5 @@
 -- `finish::rounds::settle` meets its contract.
 use Rattle.finish.proofs.Settling.{answered}
-use borrow.Author.Rules.{rules}
 use Rattle.finish.proofs.rounds.settle.Goals as goal
 
 pub returns : goal.returns

@@ -1,14 +1,9 @@
 -- `fit::spread::check_spread` meets its contract.
-use Rattle.words.specs.declared.Verdict.TheVariants.{Done}
-use Rattle.words.specs.Verdict.{at_crossbar}
-use Rattle.words.proofs.Order.{tested, tests_start}
-use Rattle.laws.specs.Row.{at}
-use Rattle.fit.specs.Fit.{low, spread_verdict}
+use Rattle.words.proofs.Order.{tests_start}
+use Rattle.fit.specs.Fit.{spread_verdict}
 use Rattle.fit.proofs.Parts.{low_passes, low_stops}
 use native.Mathlib.Omega.{arith}
-use Prim.Native.Nat.{◌≤◌, ◌-◌}
 use mathlib.Core.Path.{◌≡◌, sym, ◌∙◌}
-use borrow.Author.Rules.{rules}
 use Rattle.fit.proofs.spread.check_spread.Goals as goal
 
 pub loop-x-init : goal.loop-x-init

@@ -1,13 +1,11 @@
 -- `fit::spread::check_spread` meets its contract.
 use Rattle.words.specs.declared.Verdict.TheVariants.{Done}
 use Rattle.words.specs.Verdict.{at_crossbar}
-use Rattle.words.proofs.Order.{tested, tests_start}
+use Rattle.words.proofs.Order.{tested}
 use Rattle.laws.specs.Row.{at}
-use Rattle.fit.specs.Fit.{low, spread_verdict}
-use Rattle.fit.proofs.Parts.{low_passes, low_stops}
-use native.Mathlib.Omega.{arith}
+use Rattle.fit.specs.Fit.{low}
 use Prim.Native.Nat.{◌≤◌, ◌-◌}
-use mathlib.Core.Path.{◌≡◌, sym, ◌∙◌}
+use mathlib.Core.Path.{◌≡◌}
 use Rattle.fit.proofs.spread.check_spread.Given as goal
 
 abbrev pub invariant-loop-x : goal.invariant-loop-x

@@ -3,9 +3,7 @@ use Rattle.laws.proofs.Greatest.{greatest_more}
 use Rattle.laws.specs.Row.{at}
 use Rattle.laws.specs.Sum.{greatest}
 use native.Mathlib.Omega.{arith}
-use Prim.Native.Nat.{◌≤◌, ◌-◌}
 use mathlib.Core.Path.{◌≡◌, refl}
-use borrow.Author.Rules.{rules}
 use Rattle.fit.proofs.spread.greatest_of.Goals as goal
 
 pub loop-x-init : goal.loop-x-init

@@ -1,10 +1,8 @@
 -- `fit::spread::greatest_of` meets its contract.
-use Rattle.laws.proofs.Greatest.{greatest_more}
 use Rattle.laws.specs.Row.{at}
 use Rattle.laws.specs.Sum.{greatest}
-use native.Mathlib.Omega.{arith}
 use Prim.Native.Nat.{◌≤◌, ◌-◌}
-use mathlib.Core.Path.{◌≡◌, refl}
+use mathlib.Core.Path.{◌≡◌}
 use Rattle.fit.proofs.spread.greatest_of.Given as goal
 
 abbrev pub invariant-loop-x : goal.invariant-loop-x

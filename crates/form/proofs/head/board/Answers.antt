@@ -2,7 +2,6 @@
 use borrow.Author.Tests.{not-true, not-false}
 use Prim.Native.Nat.{◌+◌}
 use Rattle.form.proofs.Heads.{line, board_breaks, f_breaks, c_breaks, board_read}
-use borrow.Author.Rules.{rules}
 use Rattle.form.proofs.head.board.Goals as goal
 
 pub returns-then-at_f-lt-BOARD : goal.returns-then-at_f-lt-BOARD

@@ -1,6 +1,5 @@
 -- `form::head::count` meets its contract.
 use Rattle.form.proofs.Heads.{line, count_breaks, count_read}
-use borrow.Author.Rules.{rules}
 use Rattle.form.proofs.head.count.Goals as goal
 
 pub returns-then-at_n-lt-NETS : goal.returns-then-at_n-lt-NETS

@@ -1,12 +1,7 @@
 -- `form::head::word` meets its contract.
-use borrow.Author.Tests.{eqb-true, eqb-false, not-true, not-false}
-use mathlib.Core.Path.{◌≡◌, refl}
-use mathlib.Core.Logic.{⊎_elim}
-use Prim.Native.Nat.{◌-◌, ◌≤◌}
+use mathlib.Core.Path.{refl}
 use native.Mathlib.Omega.{arith}
-use lib.ListN.{length, take}
 use Rattle.form.proofs.Heads.{letter_more}
-use borrow.Author.Rules.{rules}
 use Rattle.form.proofs.head.word.Goals as goal
 use Rattle.form.proofs.head.word.Goals.{then-rest-i-via-then-rest-i, then-rest-i-via-else-rest-i+then-rest-i-2}
 

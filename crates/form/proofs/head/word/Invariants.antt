@@ -1,11 +1,7 @@
 -- `form::head::word` meets its contract.
-use borrow.Author.Tests.{eqb-true, eqb-false, not-true, not-false}
-use mathlib.Core.Path.{◌≡◌, refl}
-use mathlib.Core.Logic.{⊎_elim}
+use mathlib.Core.Path.{◌≡◌}
 use Prim.Native.Nat.{◌-◌, ◌≤◌}
-use native.Mathlib.Omega.{arith}
 use lib.ListN.{length, take}
-use Rattle.form.proofs.Heads.{letter_more}
 use Rattle.form.proofs.head.word.Given as goal
 
 abbrev pub invariant-loop-i : goal.invariant-loop-i

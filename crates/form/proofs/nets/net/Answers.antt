@@ -7,7 +7,6 @@ use Rattle.words.proofs.Bytes.{lent_to_end}
 use Rattle.form.specs.Form.{newline}
 use Rattle.form.specs.Walk.{NumberAt}
 use Rattle.form.proofs.NetLines.{broken_first, both_numbers}
-use borrow.Author.Rules.{rules}
 use Rattle.form.proofs.nets.net.Goals as goal
 
 pub returns-then-not-first : goal.returns-then-not-first

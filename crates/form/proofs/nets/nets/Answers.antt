@@ -7,9 +7,8 @@ use native.Mathlib.Omega.{arith}
 use Rattle.words.proofs.Bytes.{lent_to_end}
 use Rattle.form.specs.Form.{IsNets}
 use Rattle.form.specs.Walk.{NetAt}
-use Rattle.form.proofs.Stopping.{From, from_start}
+use Rattle.form.proofs.Stopping.{from_start}
 use Rattle.form.proofs.NetLines.{stops_here, goes_past, all_past}
-use borrow.Author.Rules.{rules}
 use Rattle.form.proofs.nets.nets.Goals as goal
 
 pub loop-left-init : goal.loop-left-init

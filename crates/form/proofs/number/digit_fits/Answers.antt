@@ -1,8 +1,6 @@
 -- `form::number::digit_fits` meets its contract.
-use borrow.Author.Tests.{not-true, not-false}
 use mathlib.Core.Path.{sym, ◌∙◌}
 use Rattle.form.proofs.Numbers.{fits_none, fits_any, fits_zero, fits_more, digit_says}
-use borrow.Author.Rules.{rules}
 use Rattle.form.proofs.number.digit_fits.Goals as goal
 
 pub returns-then-not-is_digit : goal.returns-then-not-is_digit

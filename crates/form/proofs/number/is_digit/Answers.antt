@@ -1,6 +1,5 @@
 -- `form::number::is_digit` meets its contract.
 use borrow.Author.Tests.{le-leb, lt-leb}
-use borrow.Author.Rules.{rules}
 use Rattle.form.proofs.number.is_digit.Goals as goal
 
 pub returns-then-b-ge48 : goal.returns-then-b-ge48

@@ -1,13 +1,8 @@
 -- `form::number::number` meets its contract.
-use borrow.Author.Tests.{eqb-true, eqb-false, not-true, not-false}
 use mathlib.Core.Path.{refl, sym, ◌∙◌}
-use mathlib.Core.Logic.{inl, ⊎_elim}
-use Prim.Native.Nat.{◌-◌, ◌≤◌, ◌<◌}
+use mathlib.Core.Logic.{inl}
 use native.Mathlib.Omega.{arith}
-use lib.ListN.{length}
-use Rattle.form.specs.Walk.{Came}
 use Rattle.form.proofs.Numbers.{digit_next, whole_number}
-use borrow.Author.Rules.{rules}
 use Rattle.form.proofs.number.number.Goals as goal
 use Rattle.form.proofs.number.number.Goals.{else-i-gt0-via-then-i-gt0+else-b-after, else-i-gt0-via-else-i-gt0}
 

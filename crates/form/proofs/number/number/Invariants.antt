@@ -1,12 +1,7 @@
 -- `form::number::number` meets its contract.
-use borrow.Author.Tests.{eqb-true, eqb-false, not-true, not-false}
-use mathlib.Core.Path.{refl, sym, ◌∙◌}
-use mathlib.Core.Logic.{inl, ⊎_elim}
 use Prim.Native.Nat.{◌-◌, ◌≤◌, ◌<◌}
-use native.Mathlib.Omega.{arith}
 use lib.ListN.{length}
 use Rattle.form.specs.Walk.{Came}
-use Rattle.form.proofs.Numbers.{digit_next, whole_number}
 use Rattle.form.proofs.number.number.Given as goal
 
 abbrev pub invariant-loop-i : goal.invariant-loop-i

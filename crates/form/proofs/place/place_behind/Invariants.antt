@@ -1,10 +1,8 @@
 -- `form::place::place_behind` meets its contract.
-use mathlib.Core.Path.{◌≡◌, refl, sym}
-use mathlib.Core.Logic.{⊎_elim}
+use mathlib.Core.Path.{◌≡◌}
 use Prim.Native.Nat.{◌-◌, ◌≤◌}
-use native.Mathlib.Omega.{arith}
 use lib.ListN.{length}
-use Rattle.form.proofs.Places.{Reached, reached_none, past_newline, past_other, reached_all}
+use Rattle.form.proofs.Places.{Reached}
 use Rattle.form.proofs.place.place_behind.Given as goal
 
 abbrev pub invariant-loop-i : goal.invariant-loop-i

@@ -1,7 +1,6 @@
 -- `form::walk::broken` meets its contract.
 use mathlib.Core.Path.{sym}
 use lib.Seq.{length-take-le}
-use borrow.Author.Rules.{rules}
 use Rattle.form.proofs.walk.broken.Goals as goal
 
 pub slice_bounds-place_behind-end : goal.slice_bounds-place_behind-end

@@ -2,7 +2,6 @@
 use borrow.Author.Tests.{not-true, not-false}
 use Prim.Native.Nat.{◌+◌}
 use Rattle.form.proofs.Whole.{rest_counted, rest_stops, in_board, in_count, in_nets, behind_nets, whole_text}
-use borrow.Author.Rules.{rules}
 use Rattle.form.proofs.walk.check_form.Goals as goal
 
 pub returns-then-not-board : goal.returns-then-not-board

@@ -1,6 +1,5 @@
 -- `job::read::first_end` meets its contract.
 use mathlib.Core.Path.{◌∙◌}
-use borrow.Author.Rules.{rules}
 use Rattle.job.proofs.read.first_end.Goals as goal
 
 pub returns : goal.returns

@@ -1,6 +1,5 @@
 -- `job::read::head_in` meets its contract.
 use mathlib.Core.Path.{◌∙◌}
-use borrow.Author.Rules.{rules}
 use Rattle.job.proofs.read.head_in.Goals as goal
 
 pub returns : goal.returns

@@ -1,6 +1,5 @@
 -- `job::read::head_of` meets its contract.
 use Rattle.job.proofs.Stages.{its_head, head_is_long}
-use borrow.Author.Rules.{rules}
 use Rattle.job.proofs.read.head_of.Goals as goal
 
 pub head_in-requires : goal.head_in-requires

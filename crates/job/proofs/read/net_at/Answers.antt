@@ -3,7 +3,6 @@ use Rattle.job.proofs.Reading.{none_above, none_beyond, its_ends}
 use Rattle.job.specs.Job.{first_in, second_in}
 use native.Mathlib.Omega.{arith}
 use mathlib.Core.Path.{◌≡◌, sym, ap, ◌∙◌}
-use borrow.Author.Rules.{rules}
 use Rattle.job.proofs.read.net_at.Goals as goal
 
 pub returns-then-n-i : goal.returns-then-n-i

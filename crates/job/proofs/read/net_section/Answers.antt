@@ -2,7 +2,6 @@
 use Rattle.job.proofs.Passing.{check_passed, check_refused, check_done}
 use Rattle.words.proofs.Stretches.{stretch_none, stretch_part}
 use native.Mathlib.Omega.{arith}
-use borrow.Author.Rules.{rules}
 use Rattle.job.proofs.read.net_section.Goals as goal
 
 pub slice_bounds-result-count : goal.slice_bounds-result-count

@@ -2,7 +2,6 @@
 use Rattle.job.specs.Job.{nets_at}
 use native.Mathlib.Omega.{arith}
 use mathlib.Core.Path.{refl}
-use borrow.Author.Rules.{rules}
 use Rattle.job.proofs.read.nets_at.Goals as goal
 
 pub returns : goal.returns

@@ -2,7 +2,6 @@
 use Rattle.job.proofs.Stages.{too_short, not_three, by_ranges}
 use native.Mathlib.Omega.{arith}
 use mathlib.Core.Path.{sym, ◌∙◌}
-use borrow.Author.Rules.{rules}
 use Rattle.job.proofs.well_formed.check_head.Goals as goal
 
 pub returns-then-job-lt-HEAD_LONG : goal.returns-then-job-lt-HEAD_LONG

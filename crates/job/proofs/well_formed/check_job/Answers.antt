@@ -4,7 +4,6 @@ use Rattle.job.proofs.Passing.{head_few, nets_decide}
 use Rattle.job.proofs.Reading.{nets_at_small}
 use Rattle.job.specs.declared.Head.{Head}
 use mathlib.Core.Path.{sym, ap, ◌∙◌}
-use borrow.Author.Rules.{rules}
 use Rattle.job.proofs.well_formed.check_job.Goals as goal
 
 pub returns-in-Refused : goal.returns-in-Refused

@@ -4,7 +4,6 @@ use native.Mathlib.Omega.{arith}
 use mathlib.Core.Path.{sym, ap, ◌∙◌}
 use Rattle.words.specs.Verdict.{refuse, at_byte}
 use Prim.Native.Nat.{ℕ}
-use borrow.Author.Rules.{rules}
 use Rattle.job.proofs.well_formed.check_length.Goals as goal
 
 pub returns-then-job-end : goal.returns-then-job-end

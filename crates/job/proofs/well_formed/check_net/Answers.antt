@@ -2,7 +2,6 @@
 use Rattle.job.proofs.Nets.{net_no_first, net_no_second, net_twice, net_joins}
 use native.Mathlib.Omega.{arith}
 use mathlib.Core.Path.{sym, ◌∙◌}
-use borrow.Author.Rules.{rules}
 use Rattle.job.proofs.well_formed.check_net.Goals as goal
 
 pub returns-then-f-v : goal.returns-then-f-v

@@ -1,12 +1,7 @@
 -- `job::well_formed::check_nets` meets its contract.
 use Rattle.job.proofs.Nets.{nets_none, nets_pass, nets_stop}
-use Rattle.job.specs.Check.{nets_verdict}
-use Rattle.job.specs.Job.{first_in, second_in}
-use Rattle.words.specs.declared.Verdict.TheVariants.{Done}
 use native.Mathlib.Omega.{arith}
 use mathlib.Core.Path.{◌≡◌, sym, ◌∙◌}
-use Prim.Native.Nat.{◌≤◌, ◌-◌}
-use borrow.Author.Rules.{rules}
 use Rattle.job.proofs.well_formed.check_nets.Goals as goal
 
 pub loop-i-init : goal.loop-i-init

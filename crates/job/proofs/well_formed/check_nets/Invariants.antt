@@ -1,10 +1,8 @@
 -- `job::well_formed::check_nets` meets its contract.
-use Rattle.job.proofs.Nets.{nets_none, nets_pass, nets_stop}
 use Rattle.job.specs.Check.{nets_verdict}
 use Rattle.job.specs.Job.{first_in, second_in}
 use Rattle.words.specs.declared.Verdict.TheVariants.{Done}
-use native.Mathlib.Omega.{arith}
-use mathlib.Core.Path.{◌≡◌, sym, ◌∙◌}
+use mathlib.Core.Path.{◌≡◌}
 use Prim.Native.Nat.{◌≤◌, ◌-◌}
 use Rattle.job.proofs.well_formed.check_nets.Given as goal
 

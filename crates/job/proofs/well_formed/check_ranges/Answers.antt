@@ -5,7 +5,6 @@ use mathlib.Core.Bool.{Bool}
 use Rattle.job.specs.Check.{ranges_verdict}
 use borrow.Author.Tests.{le-ltb, lt-ltb, eq-eqb, ne_eqb}
 use mathlib.Core.Path.{◌≡◌, sym, ◌∙◌}
-use borrow.Author.Rules.{rules}
 use Rattle.job.proofs.well_formed.check_ranges.Goals as goal
 
 test : {a b t : Bool} → a ≡ b → a ≡ t → b ≡ t

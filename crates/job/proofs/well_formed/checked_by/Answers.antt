@@ -1,5 +1,4 @@
 -- `job::well_formed::checked_by` meets its contract.
-use borrow.Author.Rules.{rules}
 use Rattle.job.proofs.well_formed.checked_by.Goals as goal
 
 pub returns-in-Done : goal.returns-in-Done

@@ -2,7 +2,6 @@
 use Rattle.job.specs.Check.{outside}
 use borrow.Author.Tests.{lt-ltb, le-ltb}
 use mathlib.Core.Path.{sym}
-use borrow.Author.Rules.{rules}
 use Rattle.job.proofs.well_formed.outside.Goals as goal
 
 pub returns-then-x-smallest : goal.returns-then-x-smallest

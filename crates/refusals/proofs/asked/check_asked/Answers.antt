@@ -2,7 +2,6 @@
 use Rattle.refusals.proofs.Asking.{asked_unknown, asked_known}
 use native.Mathlib.Omega.{arith}
 use mathlib.Core.Path.{sym, ◌∙◌}
-use borrow.Author.Rules.{rules}
 use Rattle.refusals.proofs.asked.check_asked.Goals as goal
 
 pub returns-then-f-wide : goal.returns-then-f-wide

@@ -2,7 +2,6 @@
 use Rattle.refusals.proofs.Asking.{both_first, both_second, both_same, both_apart}
 use native.Mathlib.Omega.{arith}
 use mathlib.Core.Path.{sym, ◌∙◌}
-use borrow.Author.Rules.{rules}
 use Rattle.refusals.proofs.asked.check_both.Goals as goal
 
 pub returns-in-Refused : goal.returns-in-Refused

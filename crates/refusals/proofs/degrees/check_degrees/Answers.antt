@@ -2,7 +2,6 @@
 use Rattle.refusals.proofs.Faults.{over_stops, over_none}
 use native.Mathlib.Omega.{arith}
 use mathlib.Core.Path.{sym, ◌∙◌}
-use borrow.Author.Rules.{rules}
 use Rattle.refusals.proofs.degrees.check_degrees.Goals as goal
 
 pub returns-then-v-head : goal.returns-then-v-head

@@ -4,11 +4,8 @@ use Rattle.laws.specs.Row.{at}
 use Rattle.laws.specs.Lowest.{first_where}
 use Rattle.job.specs.Job.{job_in}
 use Rattle.board.specs.Board.{limit}
-use lib.Dec.{ltb}
 use native.Mathlib.Omega.{arith}
-use Prim.Native.Nat.{◌≤◌, ◌-◌}
 use mathlib.Core.Path.{◌≡◌, refl, sym}
-use borrow.Author.Rules.{rules}
 use Rattle.refusals.proofs.degrees.first_over_limit.Goals as goal
 
 pub loop-v-init : goal.loop-v-init

@@ -1,13 +1,11 @@
 -- `refusals::degrees::first_over_limit` meets its contract.
-use Rattle.laws.proofs.FirstWhere.{first_less_here, first_less_on}
 use Rattle.laws.specs.Row.{at}
 use Rattle.laws.specs.Lowest.{first_where}
 use Rattle.job.specs.Job.{job_in}
 use Rattle.board.specs.Board.{limit}
 use lib.Dec.{ltb}
-use native.Mathlib.Omega.{arith}
 use Prim.Native.Nat.{◌≤◌, ◌-◌}
-use mathlib.Core.Path.{◌≡◌, refl, sym}
+use mathlib.Core.Path.{◌≡◌}
 use Rattle.refusals.proofs.degrees.first_over_limit.Given as goal
 
 abbrev pub invariant-loop-v : goal.invariant-loop-v

@@ -1,13 +1,8 @@
 -- `refusals::range::check_range` meets its contract.
-use Rattle.refusals.proofs.Faults.{NoneBeyond, beyond_passes, beyond_stops, beyond_none}
+use Rattle.refusals.proofs.Faults.{beyond_passes, beyond_stops, beyond_none}
 use Rattle.words.proofs.Order.{tests_start}
-use Rattle.laws.specs.Row.{at}
-use Rattle.job.specs.Job.{job_in}
 use native.Mathlib.Omega.{arith}
-use Prim.Native.Nat.{◌≤◌, ◌-◌}
 use mathlib.Core.Path.{sym, ◌∙◌}
-use borrow.Author.Tests.{not-true, not-false}
-use borrow.Author.Rules.{rules}
 use Rattle.refusals.proofs.range.check_range.Goals as goal
 
 pub loop-i-init : goal.loop-i-init

@@ -1,12 +1,8 @@
 -- `refusals::range::check_range` meets its contract.
-use Rattle.refusals.proofs.Faults.{NoneBeyond, beyond_passes, beyond_stops, beyond_none}
-use Rattle.words.proofs.Order.{tests_start}
+use Rattle.refusals.proofs.Faults.{NoneBeyond}
 use Rattle.laws.specs.Row.{at}
 use Rattle.job.specs.Job.{job_in}
-use native.Mathlib.Omega.{arith}
 use Prim.Native.Nat.{◌≤◌, ◌-◌}
-use mathlib.Core.Path.{sym, ◌∙◌}
-use borrow.Author.Tests.{not-true, not-false}
 use Rattle.refusals.proofs.range.check_range.Given as goal
 
 abbrev pub invariant-loop-i : goal.invariant-loop-i

@@ -3,7 +3,6 @@ use Rattle.job.proofs.Passing.{stage_refused, stage_passed, check_passed}
 use Rattle.words.proofs.Order.{then_refused, then_next}
 use Rattle.refusals.specs.Start.{plan_verdict}
 use mathlib.Core.Path.{sym, ◌∙◌}
-use borrow.Author.Rules.{rules}
 use Rattle.refusals.proofs.start.check_plan.Goals as goal
 
 pub returns-in_default : goal.returns-in_default

@@ -2,7 +2,6 @@
 use mathlib.Core.Path.{sym, ◌∙◌}
 use native.Mathlib.Omega.{arith}
 use Rattle.refusals.proofs.Starting.{room_short, scratch_short, room_enough}
-use borrow.Author.Rules.{rules}
 use Rattle.refusals.proofs.start.check_room.Goals as goal
 
 pub returns-then-plan_length-n : goal.returns-then-plan_length-n

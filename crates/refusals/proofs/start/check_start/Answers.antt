@@ -3,7 +3,6 @@ use Rattle.job.proofs.Passing.{stage_refused, stage_passed}
 use Rattle.refusals.specs.Start.{round_verdict}
 use Rattle.refusals.proofs.Starting.{plan_fits}
 use mathlib.Core.Path.{sym, ◌∙◌}
-use borrow.Author.Rules.{rules}
 use Rattle.refusals.proofs.start.check_start.Goals as goal
 
 pub returns-in_default : goal.returns-in_default

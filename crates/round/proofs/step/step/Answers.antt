@@ -1,7 +1,6 @@
 -- `round::step::step` meets its contract.
 use mathlib.Core.Path.{sym, ◌∙◌}
 use Rattle.round.proofs.Stepping.{step_asked, stepped_settled, stepped_over}
-use borrow.Author.Rules.{rules}
 use Rattle.round.proofs.step.step.Goals as goal
 
 pub returns-in_default : goal.returns-in_default

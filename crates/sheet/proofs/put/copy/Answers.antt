@@ -2,11 +2,9 @@
 use Rattle.sheet.proofs.Putting.{copy_next}
 use Rattle.words.specs.Lent.{onto}
 use lib.Seq.{take_all}
-use lib.ListN.{length, take, length-set}
+use lib.ListN.{length-set}
 use native.Mathlib.Omega.{arith}
-use mathlib.Core.Path.{◌≡◌, refl, ap, ◌∙◌}
-use Prim.Native.Nat.{◌≤◌, ◌-◌}
-use borrow.Author.Rules.{rules}
+use mathlib.Core.Path.{refl, ap, ◌∙◌}
 use Rattle.sheet.proofs.put.copy.Goals as goal
 
 pub loop-i-init : goal.loop-i-init

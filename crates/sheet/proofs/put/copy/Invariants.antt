@@ -1,10 +1,7 @@
 -- `sheet::put::copy` meets its contract.
-use Rattle.sheet.proofs.Putting.{copy_next}
 use Rattle.words.specs.Lent.{onto}
-use lib.Seq.{take_all}
-use lib.ListN.{length, take, length-set}
-use native.Mathlib.Omega.{arith}
-use mathlib.Core.Path.{◌≡◌, refl, ap, ◌∙◌}
+use lib.ListN.{length, take}
+use mathlib.Core.Path.{◌≡◌}
 use Prim.Native.Nat.{◌≤◌, ◌-◌}
 use Rattle.sheet.proofs.put.copy.Given as goal
 

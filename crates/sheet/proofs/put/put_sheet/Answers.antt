@@ -4,7 +4,6 @@ use lib.Seq.{length-take-le}
 use lib.ListN.{length-take}
 use native.Mathlib.Omega.{arith}
 use mathlib.Core.Path.{sym}
-use borrow.Author.Rules.{rules}
 use Rattle.sheet.proofs.put.put_sheet.Goals as goal
 
 pub slice_bounds-copy-end : goal.slice_bounds-copy-end

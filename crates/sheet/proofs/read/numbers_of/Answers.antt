@@ -4,7 +4,6 @@ use lib.Seq.{length-take-le}
 use lib.ListN.{length-take, length-drop}
 use native.Mathlib.Omega.{arith}
 use mathlib.Core.Path.{sym}
-use borrow.Author.Rules.{rules}
 use Rattle.sheet.proofs.read.numbers_of.Goals as goal
 
 pub slice_bounds-read_list-end-3 : goal.slice_bounds-read_list-end-3

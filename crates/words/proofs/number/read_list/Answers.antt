@@ -2,12 +2,9 @@
 use Rattle.words.proofs.Bytes.{read_next, onto_whole, length_numbers}
 use lib.Seq.{length-take-le}
 use Rattle.words.specs.Number.{numbers}
-use Rattle.words.specs.Lent.{onto}
 use lib.ListN.{length, take, set, length-set}
 use native.Mathlib.Omega.{arith}
 use mathlib.Core.Path.{◌≡◌, refl, ap, ◌∙◌}
-use Prim.Native.Nat.{◌≤◌, ◌-◌}
-use borrow.Author.Rules.{rules}
 use Rattle.words.proofs.number.read_list.Goals as goal
 
 pub loop-i-init : goal.loop-i-init

@@ -1,11 +1,8 @@
 -- `words::number::read_list` meets its contract.
-use Rattle.words.proofs.Bytes.{read_next, onto_whole, length_numbers}
-use lib.Seq.{length-take-le}
 use Rattle.words.specs.Number.{numbers}
 use Rattle.words.specs.Lent.{onto}
-use lib.ListN.{length, take, set, length-set}
-use native.Mathlib.Omega.{arith}
-use mathlib.Core.Path.{◌≡◌, refl, ap, ◌∙◌}
+use lib.ListN.{length, take}
+use mathlib.Core.Path.{◌≡◌}
 use Prim.Native.Nat.{◌≤◌, ◌-◌}
 use Rattle.words.proofs.number.read_list.Given as goal
 

@@ -3,11 +3,8 @@ use Rattle.words.proofs.Bytes.{write_next}
 use Rattle.words.specs.Number.{bytes}
 use Rattle.words.specs.Lent.{onto}
 use lib.Seq.{take_all}
-use lib.ListN.{length, take}
 use native.Mathlib.Omega.{arith}
-use mathlib.Core.Path.{◌≡◌, refl, ap, ◌∙◌}
-use Prim.Native.Nat.{◌≤◌, ◌-◌}
-use borrow.Author.Rules.{rules}
+use mathlib.Core.Path.{refl, ap, ◌∙◌}
 use Rattle.words.proofs.number.write_list.Goals as goal
 
 pub loop-i-init : goal.loop-i-init

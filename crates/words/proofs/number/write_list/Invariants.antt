@@ -1,11 +1,8 @@
 -- `words::number::write_list` meets its contract.
-use Rattle.words.proofs.Bytes.{write_next}
 use Rattle.words.specs.Number.{bytes}
 use Rattle.words.specs.Lent.{onto}
-use lib.Seq.{take_all}
 use lib.ListN.{length, take}
-use native.Mathlib.Omega.{arith}
-use mathlib.Core.Path.{◌≡◌, refl, ap, ◌∙◌}
+use mathlib.Core.Path.{◌≡◌}
 use Prim.Native.Nat.{◌≤◌, ◌-◌}
 use Rattle.words.proofs.number.write_list.Given as goal
 
