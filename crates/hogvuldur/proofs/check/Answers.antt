@@ -1,7 +1,6 @@
 -- `hogvuldur::check` meets its contract.
 use Rattle.job.proofs.Passing.{check_done, check_refused}
 use mathlib.Core.Path.{sym}
-use borrow.Author.Rules.{rules}
 use Rattle.hogvuldur.proofs.check.Goals as goal
 
 pub returns-in-Passed : goal.returns-in-Passed

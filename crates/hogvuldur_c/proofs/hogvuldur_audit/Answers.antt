@@ -1,7 +1,6 @@
 -- `hogvuldur_c::hogvuldur_audit` meets its contract.
 use mathlib.Core.Path.{◌∙◌, ap}
 use Rattle.tell.specs.InC.{verdict_in_c}
-use borrow.Author.Rules.{rules}
 use Rattle.hogvuldur_c.proofs.hogvuldur_audit.Goals as goal
 
 pub returns : goal.returns

@@ -11,7 +11,6 @@ use native.Mathlib.Omega.{arith}
 use mathlib.Core.List.{List}
 use Prim.Native.Nat.{ℕ, ◌≤◌}
 use mathlib.Core.Path.{◌≡◌, refl, ap, ◌∙◌}
-use borrow.Author.Rules.{rules}
 use Rattle.hogvuldur_c.proofs.hogvuldur_net_section.Goals as goal
 
 section-short : (job : List ℕ) → section_long (checked_of job) ≤ 16384

@@ -1,7 +1,6 @@
 -- `hogvuldur_c::hogvuldur_numbers` meets its contract.
 use Rattle.tell.specs.InC.{numbers_in_c}
 use mathlib.Core.Path.{ap, ◌∙◌}
-use borrow.Author.Rules.{rules}
 use Rattle.hogvuldur_c.proofs.hogvuldur_numbers.Goals as goal
 
 pub returns : goal.returns

@@ -1,7 +1,6 @@
 -- `hogvuldur_c::hogvuldur_spare` meets its contract.
 use mathlib.Core.Path.{◌∙◌, ap}
 use Rattle.tell.specs.InC.{room_in_c}
-use borrow.Author.Rules.{rules}
 use Rattle.hogvuldur_c.proofs.hogvuldur_spare.Goals as goal
 
 pub returns : goal.returns

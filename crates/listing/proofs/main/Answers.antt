@@ -5,4 +5,4 @@ use borrow.Author.Rules.{rules}
 use Rattle.listing.proofs.main.Goals as goal
 
 pub slice_bounds-so_far-end : goal.slice_bounds-so_far-end
-slice_bounds-so_far-end c = sym (length-take-le c.listing_room.result c.list-end.new.plan.1.1.0 (search rules))
+slice_bounds-so_far-end c = sym (length-take-le c.listing_room.result c.list-end.new.room (search rules))

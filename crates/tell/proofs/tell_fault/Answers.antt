@@ -5,7 +5,6 @@ use mathlib.Core.Bool.{Bool, true, false, cond}
 use Prim.Native.Nat.{ℕ}
 use mir.Val.{bool_byte}
 use Rattle.tell.specs.InC.{four}
-use borrow.Author.Rules.{rules}
 use Rattle.tell.proofs.tell_fault.Goals as goal
 
 one-or-none : (t : Bool) (start long : ℕ) → four (bool_byte t) start long 0 ≡ four (cond t 1 0) start long 0

@@ -1,6 +1,5 @@
 -- `tell::tell_finish` meets its contract.
 use mathlib.Core.Path.{◌∙◌}
-use borrow.Author.Rules.{rules}
 use Rattle.tell.proofs.tell_finish.Goals as goal
 
 pub returns-in-Done : goal.returns-in-Done

@@ -1,5 +1,4 @@
 -- `tell::tell_net` meets its contract.
-use borrow.Author.Rules.{rules}
 use Rattle.tell.proofs.tell_net.Goals as goal
 
 pub returns-in-NoNet : goal.returns-in-NoNet

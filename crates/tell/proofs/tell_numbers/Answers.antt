@@ -1,5 +1,4 @@
 -- `tell::tell_numbers` meets its contract.
-use borrow.Author.Rules.{rules}
 use Rattle.tell.proofs.tell_numbers.Goals as goal
 
 pub returns : goal.returns

@@ -1,6 +1,5 @@
 -- `tell::tell_room` meets its contract.
 use mathlib.Core.Path.{◌∙◌}
-use borrow.Author.Rules.{rules}
 use Rattle.tell.proofs.tell_room.Goals as goal
 
 pub returns-in-Nets : goal.returns-in-Nets

@@ -1,6 +1,5 @@
 -- `tell::tell_round` meets its contract.
 use mathlib.Core.Path.{◌∙◌}
-use borrow.Author.Rules.{rules}
 use Rattle.tell.proofs.tell_round.Goals as goal
 
 pub returns-in-Settled : goal.returns-in-Settled

@@ -1,7 +1,6 @@
 -- `tell::tell_section` meets its contract.
 use native.Mathlib.Omega.{arith}
 use mathlib.Core.Path.{◌∙◌}
-use borrow.Author.Rules.{rules}
 use Rattle.tell.proofs.tell_section.Goals as goal
 
 pub overflow_mul-head : goal.overflow_mul-head

@@ -1,5 +1,4 @@
 -- `tell::tell_verdict` meets its contract.
-use borrow.Author.Rules.{rules}
 use Rattle.tell.proofs.tell_verdict.Goals as goal
 
 pub returns : goal.returns

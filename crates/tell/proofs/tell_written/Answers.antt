@@ -1,6 +1,5 @@
 -- `tell::tell_written` meets its contract.
 use mathlib.Core.Path.{◌∙◌}
-use borrow.Author.Rules.{rules}
 use Rattle.tell.proofs.tell_written.Goals as goal
 
 pub returns-in-Long : goal.returns-in-Long
