@@ -10,7 +10,8 @@ use borrow.Author.Tests.{eqb-true, not-false}
 use Rattle.laws.specs.Row.{row}
 use Rattle.laws.proofs.Row.{row_same}
 use Rattle.laws.proofs.Cases.{by_same}
-use Rattle.words.specs.declared.Verdict.TheVariants.{Done}
+use Rattle.std.specs.Prelude.{Ok}
+use Rattle.words.specs.declared.Reason.TheVariants as reason
 use Rattle.words.specs.Number.{word, numbers, AreBytes}
 use Rattle.words.proofs.Order.{then_first, then_second, then_done, passed}
 use Rattle.words.proofs.Bytes.{bytes_numbers, numbers_row}
@@ -27,24 +28,24 @@ use Rattle.audit.specs.Audit.{numbers_verdict, against_verdict, audit_verdict, A
 use Rattle.audit.proofs.Parts.{right_length, heads_say, totals_say, totals_alike}
 
 -- The audit accepts what is written for a legal balanced assignment.
-module _ (job : List ℕ) (a : ℕ → ℕ) (done : job_verdict job ≡ Done) where
+module _ (job : List ℕ) (a : ℕ → ℕ) (done : job_verdict job ≡ Ok tt) where
   whole : nets_at job ≤ length job
   whole = omega (arith, (passes job done).long)
 
   pub reads_back : Alike (job_in job) (crossbar_in job (sheet_of job a)) a
   reads_back = said_crossbar job a whole
 
-  pub written_audits : Fit (job_in job) a → audit_verdict job (sheet_of job a) ≡ Done
+  pub written_audits : Fit (job_in job) a → audit_verdict job (sheet_of job a) ≡ Ok tt
   unfolding audit_verdict numbers_verdict
   written_audits fit =
       then_done _ _ done
       (right_length job (sheet_of job a) (said_length job a whole)
       ∙ then_done _ _ ((heads_say job (sheet_of job a)).1 (λ k l. said_head job a whole (2 * k) (omega arith), said_totals_count job a whole))
-      (then_done _ _ (fit_alike (job_in job) _ a reads_back 23 ∙ (fit_says (job_in job) a 23).1 fit)
+      (then_done _ _ (fit_alike (job_in job) _ a reads_back reason.SheetCrossbar ∙ (fit_says (job_in job) a reason.SheetCrossbar).1 fit)
       (totals_alike (job_in job) _ a reads_back _ ∙ (totals_say (job_in job) a _).1 (said_total job a whole))))
 
 -- What an audit that is done has shown.
-pub audited : (job sheet : List ℕ) → audit_verdict job sheet ≡ Done → Audited job sheet
+pub audited : (job sheet : List ℕ) → audit_verdict job sheet ≡ Ok tt → Audited job sheet
 unfolding audit_verdict against_verdict numbers_verdict
 audited job sheet done =
     let against = then_second _ _ done in
@@ -53,10 +54,10 @@ audited job sheet done =
     let own = then_second _ _ rest in
     record {
       passes = then_first _ _ done;
-      long = eqb-true _ _ (not-false _ (passed _ 21 _ (then_first _ _ against)));
+      long = eqb-true _ _ (not-false _ (passed _ reason.SheetLength _ (then_first _ _ against)));
       heads = heads.0;
       totals_count = heads.1;
-      fit = (fit_says (job_in job) (crossbar_in job sheet) 23).0 (then_first _ _ own);
+      fit = (fit_says (job_in job) (crossbar_in job sheet) reason.SheetCrossbar).0 (then_first _ _ own);
       totals = (totals_say (job_in job) (crossbar_in job sheet) (total_in job sheet)).0 (then_second _ _ own);
     }
 
@@ -109,7 +110,7 @@ module _ (job sheet : List ℕ) (bytes-job : AreBytes job) (bytes-sheet : AreByt
       )
 
 -- Two sheets of a job with the same meaning are the same bytes.
-pub same_meaning : (job sheet₁ sheet₂ : List ℕ) → AreBytes job → AreBytes sheet₁ → AreBytes sheet₂ → audit_verdict job sheet₁ ≡ Done → audit_verdict job sheet₂ ≡ Done
+pub same_meaning : (job sheet₁ sheet₂ : List ℕ) → AreBytes job → AreBytes sheet₁ → AreBytes sheet₂ → audit_verdict job sheet₁ ≡ Ok tt → audit_verdict job sheet₂ ≡ Ok tt
     → ((i : ℕ) → i < n_in job → crossbar_in job sheet₁ i ≡ crossbar_in job sheet₂ i) → sheet₁ ≡ sheet₂
 same_meaning job sheet₁ sheet₂ s s₁ s₂ d₁ d₂ h =
     audited_is_written job sheet₁ s s₁ (audited job sheet₁ d₁) ∙ same_sheet job _ _ h ∙ sym (audited_is_written job sheet₂ s s₂ (audited job sheet₂ d₂))

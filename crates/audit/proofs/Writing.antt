@@ -8,7 +8,8 @@ use native.Mathlib.Omega.{arith}
 use lib.ListN.{length}
 use Rattle.laws.specs.Row.{at, row}
 use Rattle.laws.proofs.Row.{length_row, row_at}
-use Rattle.words.specs.declared.Verdict.TheVariants.{Done}
+use Rattle.std.specs.Prelude.{Ok}
+use Rattle.words.specs.declared.Reason.TheVariants as reason
 use Rattle.words.specs.Number.{AreBytes}
 use Rattle.words.proofs.Order.{then_first, then_second, then_done, long_enough}
 use Rattle.board.specs.Board.{Alike}
@@ -22,16 +23,16 @@ use Rattle.audit.specs.Audit.{lent_verdict, audit_verdict, write_sheet_verdict, 
 use Rattle.audit.proofs.Agree.{reads_back, written_audits, audited, audited_is_written}
 
 -- what the writer accepts is legal, balanced and in range, and the audit accepts what it writes
-module _ (job plan : List ℕ) (room : ℕ) (done : write_sheet_verdict job plan room ≡ Done) where
-  its_job : job_verdict job ≡ Done
+module _ (job plan : List ℕ) (room : ℕ) (done : write_sheet_verdict job plan room ≡ Ok tt) where
+  its_job : job_verdict job ≡ Ok tt
   unfolding write_sheet_verdict
   its_job = then_first _ _ done
 
   its_plan : Fit (job_in job) (at plan)
   unfolding write_sheet_verdict
-  its_plan = (fit_says (job_in job) (at plan) 13).0 (then_second _ _ (then_second _ _ done))
+  its_plan = (fit_says (job_in job) (at plan) reason.Start).0 (then_second _ _ (then_second _ _ done))
 
-  pub writer_audits : audit_verdict job (sheet_of job (at plan)) ≡ Done
+  pub writer_audits : audit_verdict job (sheet_of job (at plan)) ≡ Ok tt
   writer_audits = written_audits job (at plan) its_job its_plan
 
   -- and reading it gives the assignment back
@@ -39,14 +40,14 @@ module _ (job plan : List ℕ) (room : ℕ) (done : write_sheet_verdict job plan
   writer_reads_back = reads_back job (at plan) its_job
 
 -- and with a job that passes, n numbers and room enough it accepts every such assignment
-module _ (job plan : List ℕ) (room : ℕ) (sound : job_verdict job ≡ Done) (nets : n_in job ≤ length plan) (long : sheet_length job ≤ room) where
-  lent : lent_verdict job (length plan) room ≡ Done
+module _ (job plan : List ℕ) (room : ℕ) (sound : job_verdict job ≡ Ok tt) (nets : n_in job ≤ length plan) (long : sheet_length job ≤ room) where
+  lent : lent_verdict job (length plan) room ≡ Ok tt
   unfolding lent_verdict
   lent = then_done _ _ ((long_enough _ _).1 nets) ((long_enough _ _).1 long)
 
-  pub writer_accepts_fit : (write_sheet_verdict job plan room ≡ Done) ↔ Fit (job_in job) (at plan)
+  pub writer_accepts_fit : (write_sheet_verdict job plan room ≡ Ok tt) ↔ Fit (job_in job) (at plan)
   unfolding write_sheet_verdict
-  writer_accepts_fit = (its_plan job plan room, λ fit. then_done _ _ sound (then_done _ _ lent ((fit_says (job_in job) (at plan) 13).1 fit)))
+  writer_accepts_fit = (its_plan job plan room, λ fit. then_done _ _ sound (then_done _ _ lent ((fit_says (job_in job) (at plan) reason.Start).1 fit)))
 
 -- the audit is done exactly where the sheet is what the writer writes
 module _ (job sheet : List ℕ) (bytes-job : AreBytes job) (bytes-sheet : AreBytes sheet) where
@@ -58,12 +59,12 @@ module _ (job sheet : List ℕ) (bytes-job : AreBytes job) (bytes-sheet : AreByt
   unfolding said
   said_alike i l = row_at (crossbar_in job sheet) (n_in job) i l
 
-  pub audit_exactly : (audit_verdict job sheet ≡ Done) ↔ IsWritten job sheet
+  pub audit_exactly : (audit_verdict job sheet ≡ Ok tt) ↔ IsWritten job sheet
   unfolding said
   audit_exactly = (
     λ done.
         let e = audited job sheet done in
-        let fit = (fit_says (job_in job) (at said) 23).0 (fit_alike (job_in job) (at said) (crossbar_in job sheet) said_alike 23 ∙ (fit_says (job_in job) (crossbar_in job sheet) 23).1 e.fit) in
+        let fit = (fit_says (job_in job) (at said) reason.SheetCrossbar).0 (fit_alike (job_in job) (at said) (crossbar_in job sheet) said_alike reason.SheetCrossbar ∙ (fit_says (job_in job) (crossbar_in job sheet) reason.SheetCrossbar).1 e.fit) in
         record {
           plan = said;
           accepted = (writer_accepts_fit job said (sheet_length job) e.passes (omega (arith, length_row (crossbar_in job sheet) (n_in job))) (omega arith)).1 fit;

@@ -26,11 +26,6 @@ module _ (J : Netlist) where
     unfolding total
     total_at_most x = omega (arith, ones, sum_le (λ i. when (eqb (a i) x) 1) (λ _. 1) J.n (λ i l. when_at_most (eqb (a i) x) 1))
 
-  -- a net has at most two ends at an FPGA, and one if its ends differ
-  pub ends_at_most_two : (v i : ℕ) → ends_at J v i ≤ 2
-  unfolding ends_at
-  ends_at_most_two v i = omega (arith, when_at_most (eqb (J.first i) v) 1, when_at_most (eqb (J.second i) v) 1)
-
   -- the degrees count each end of each net
   by_ends : sum (degree J) J.f ≡ sum (λ v. sum (λ i. when (eqb (J.first i) v) 1) J.n) J.f + sum (λ v. sum (λ i. when (eqb (J.second i) v) 1) J.n) J.f
   unfolding degree ends_at

@@ -1,2 +1,2 @@
-// The board's arithmetic: degree, load, total, excess and spread, and what computes them.
+// The board's arithmetic: degree, load, total, excess and spread, and the rule of a round. Nothing runs here.
 #![tactic(auto)]

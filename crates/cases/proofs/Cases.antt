@@ -2,10 +2,11 @@
 -- Assumes nothing.
 use mathlib.Core.Path.{◌≡◌, refl, ap, sym, ◌∙◌}
 use mathlib.Core.List.{List, [], ◌∷◌}
-use mathlib.Core.Logic.{◌↔◌, inl}
+use mathlib.Core.Logic.{◌↔◌}
 use Prim.Native.Nat.{ℕ, zero, suc, ◌<◌}
 use native.Mathlib.Omega.{arith}
 use lib.ListN.{replicate, get_or-replicate}
+use Rattle.std.specs.List.{Contains}
 use Rattle.laws.specs.Sum.{sum}
 use Rattle.laws.specs.Row.{at, row}
 use Rattle.words.specs.Number.{word}
@@ -14,7 +15,6 @@ use Rattle.job.specs.Job.{nets_at, job_in, wired_in}
 use Rattle.job_writer.specs.Write.{job_of}
 use Rattle.board.specs.Board.{ends_at, load, total, total_excess, InRange, Legal}
 use Rattle.round.specs.Round.{RoundStep, Chain, Finished}
-use Rattle.cases.specs.Each.{Among}
 use Rattle.cases.specs.Holds.{verdict_on, After}
 use Rattle.cases.specs.Table.{Stop, four, six, results₆, deal_of, seven, start₇, stops₇, eight, start₈, three, request}
 use Rattle.cases.proofs.Table.{case_holds}
@@ -24,10 +24,10 @@ use Rattle.cases.proofs.Chains.{rounds_say, rounds_always}
 
 -- case 4: no assignment exists, with the one wire in use
 pub four_none : (a : ℕ → ℕ) → InRange (wired_in four) a → Legal (wired_in four) a → ⊥
-four_none = legal_says (wired_in four) [] (case_holds 4).1.1.0
+four_none a l z = let m = legal_says (wired_in four) [] (case_holds 4).1.1.0 a l z in absurd (omega (arith, m.1))
 
 -- case 6: a round from the deal ends in one of the four plans, each of them may be the end, and every finish makes one round
-pub six_every_round : (b : ℕ → ℕ) → RoundStep (job_in six) (at (deal_of six)) b ↔ Among (row b (job_in six).n) results₆
+pub six_every_round : (b : ℕ → ℕ) → RoundStep (job_in six) (at (deal_of six)) b ↔ Contains results₆ (row b (job_in six).n)
 six_every_round = results_say six (deal_of six) results₆ (case_holds 6).1.1.1.0
 
 pub six_every_finish : {b : ℕ → ℕ} {k s : ℕ} → Finished (job_in six) (at (deal_of six)) b k s → (k ≡ 1) × (s ≡ 1)
@@ -80,4 +80,4 @@ unfolding word job_of nets_at
 three_refused_within =
     let rows = (case_holds (request 1)).1.1 in
     let in_range : (i : ℕ) → i < 3 → at (replicate 3 0) i < 1 = λ i l. omega (arith, get_or-replicate {A = ℕ} 3 i 0 0 l) in
-    (rows.0.0, in_range, listed_legal (wired_in three) (replicate 3 0 ∷ []) rows.1.0 (replicate 3 0) (inl refl))
+    (rows.0.0, in_range, listed_legal (wired_in three) (replicate 3 0 ∷ []) rows.1.0 (replicate 3 0) (0, omega arith, refl))

@@ -6,6 +6,7 @@ use mathlib.Core.Logic.{◌⊎◌, inl, inr, ⊎_elim}
 use Prim.Native.Nat.{ℕ, zero, suc, ◌+◌, ◌<◌}
 use native.Mathlib.Omega.{arith}
 use lib.ListN.{length}
+use Rattle.std.specs.List.{AllByRecursion}
 use Rattle.laws.specs.Row.{at, row}
 use Rattle.laws.proofs.Row.{row_same}
 use Rattle.board.specs.Netlist.{Netlist}
@@ -17,7 +18,6 @@ use Rattle.search.proofs.Alike.{search_by_loads}
 use Rattle.round.specs.Round.{RoundStep, Chain, Finished}
 use Rattle.round.proofs.Condition3.{round_not_legal, round_named, condition3}
 use Rattle.round.proofs.Unique.{round_rule}
-use Rattle.cases.specs.Each.{Each}
 use Rattle.cases.specs.Table.{Stop}
 use Rattle.cases.specs.Table.Row.{rounds}
 use Rattle.cases.specs.Holds.{Linked, After, totals_of, excess_of, Holds}
@@ -41,7 +41,7 @@ rounds_say job s stops h =
 
 -- ---- from stop to stop
 
-each_after : (P : Stop → Type 0) (stops : List Stop) → Each P stops → (k : ℕ) (t : Stop) → After stops k t → P t
+each_after : (P : Stop → Type 0) (stops : List Stop) → AllByRecursion P stops → (k : ℕ) (t : Stop) → After stops k t → P t
 each_after P [] e k t m = absurd m
 each_after P (s ∷ stops) e zero t q = subst P q e.0
 each_after P (s ∷ stops) e (suc k) t m = each_after P stops e.1 k t m

@@ -1,5 +1,5 @@
 -- The theorem about the table, and what its rows say of every plan, round and chain of rounds.
-pub mod Each
+pub mod Ways
 pub mod Texts
 pub mod Table
 pub mod Plans

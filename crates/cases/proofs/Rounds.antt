@@ -6,6 +6,7 @@ use mathlib.Core.List.{List}
 use mathlib.Core.Logic.{◌↔◌, ◌⊎◌, inl, inr, ⊎_elim}
 use Prim.Native.Nat.{ℕ}
 use lib.ListN.{length}
+use Rattle.std.specs.List.{AllByRecursion, Contains}
 use Rattle.laws.specs.Row.{at, row}
 use Rattle.laws.proofs.Row.{row_at, row_same}
 use Rattle.board.specs.Netlist.{Netlist}
@@ -14,33 +15,34 @@ use Rattle.board.specs.Board.{load, total, InRange, Alike, Legal, WithinLimits}
 use Rattle.board.proofs.Alike.{rule_alike, load_alike, total_alike, excess_alike, alike_back}
 use Rattle.board.proofs.Rule.{rule_says}
 use Rattle.scratch.specs.Scratch.{scratch_long}
-use Rattle.search.specs.declared.Found.{Found}
-use Rattle.search.specs.declared.Found.TheVariants.{Settled, Over}
+use Rattle.search.specs.declared.Over.{Over}
 use Rattle.search.specs.Search.{search_of}
 use Rattle.round.specs.Round.{RoundStep, Chain, Finished}
+use Rattle.std.specs.Prelude.{Option, None, Some}
+use Rattle.words.specs.declared.Reason.TheVariants as reason
 use Rattle.words.proofs.Order.{then_first, then_second}
 use Rattle.refusals.specs.Start.{round_verdict}
 use Rattle.refusals.proofs.Faults.{range_says}
 use Rattle.refusals.proofs.Starting.{fitting}
 use Rattle.round.proofs.Condition3.{round_not_legal, condition3}
-use Rattle.cases.specs.Each.{Each, Among, ways}
+use Rattle.cases.specs.Ways.{ways}
 use Rattle.cases.specs.Rounds.{allowed_by, allowed, possible}
 use Rattle.cases.specs.Table.Row.{one_round, results, always}
 use Rattle.cases.specs.Holds.{NotRefused, loads_of, totals_of, excess_of, Holds}
-use Rattle.cases.proofs.Each.{each_member, some_member, picked_passes, passes_picked, way_among}
+use Rattle.cases.proofs.Ways.{each_member, some_member, kept_passes, passes_kept, way_among}
 
 -- ---- a round is what the test allows
 
 module _ (J : Netlist) (a : ℕ → ℕ) where
-  round_by : (b : ℕ → ℕ) (f : Found) → search_of J a ≡ f → allowed_by f J a b ≡ true → RoundStep J a b
-  round_by b Settled e t = absurd (false≢true t)
-  round_by b (Over v A B) e t = record { v = v.0; A = A.0; B = B.0; named = e; rule = (rule_says J a b A.0 B.0).0 t }
+  round_by : (b : ℕ → ℕ) (f : Option Over) → search_of J a ≡ f → allowed_by f J a b ≡ true → RoundStep J a b
+  round_by b None e t = absurd (false≢true t)
+  round_by b (Some o) e t = record { v = o.fpga.0; A = o.crowded.0; B = o.room.0; named = e; rule = (rule_says J a b o.crowded.0 o.room.0).0 t }
 
   pub allowed_round : (b : ℕ → ℕ) → allowed J a b ≡ true → RoundStep J a b
   allowed_round b = round_by b (search_of J a) refl
 
   pub round_allowed : (b : ℕ → ℕ) → RoundStep J a b → allowed J a b ≡ true
-  round_allowed b s = subst (λ (f : Found). allowed_by f J a b ≡ true) (sym s.named) ((rule_says J a b s.A s.B).1 s.rule)
+  round_allowed b s = subst (λ (f : Option Over). allowed_by f J a b ≡ true) (sym s.named) ((rule_says J a b s.A s.B).1 s.rule)
 
   -- by its nets alone
   pub round_alike : (b d : ℕ → ℕ) → Alike J b d → RoundStep J a b → RoundStep J a d
@@ -65,22 +67,22 @@ module _ (job start : List ℕ) (ok : NotRefused job start) where
 
   pub in_range : InRange J a
   unfolding round_verdict
-  in_range = (range_says J a 13).0 (then_second _ _ ok)
+  in_range = (range_says J a reason.Start).0 (then_second _ _ ok)
 
-  pub possible_round : (b : List ℕ) → Among b (possible J a) → RoundStep J a (at b)
-  possible_round b m = allowed_round J a (at b) (picked_passes (λ d. allowed J a (at d)) b (ways J.c J.n) m)
+  pub possible_round : (b : List ℕ) → Contains (possible J a) b → RoundStep J a (at b)
+  possible_round b m = allowed_round J a (at b) (kept_passes (λ d. allowed J a (at d)) b (ways J.c J.n) m)
 
-  pub round_possible : (b : ℕ → ℕ) → RoundStep J a b → Among (row b J.n) (possible J a)
+  pub round_possible : (b : ℕ → ℕ) → RoundStep J a b → Contains (possible J a) (row b J.n)
   round_possible b s =
-      passes_picked (λ d. allowed J a (at d)) (row b J.n) (ways J.c J.n) (way_among J.c b J.n (condition3 J a b s within in_range).in_range)
+      passes_kept (λ d. allowed J a (at d)) (row b J.n) (ways J.c J.n) (way_among J.c b J.n (condition3 J a b s within in_range).in_range)
       (round_allowed J a (at (row b J.n)) (round_alike J a b (at (row b J.n)) (as_list J b) s))
 
   -- what holds of each possible result, as a list, holds of every round's
-  of_each : (P : List ℕ → Type 0) → Each P (possible J a) → (b : ℕ → ℕ) → RoundStep J a b → P (row b J.n)
+  of_each : (P : List ℕ → Type 0) → AllByRecursion P (possible J a) → (b : ℕ → ℕ) → RoundStep J a b → P (row b J.n)
   of_each P e b s = each_member P (possible J a) e (row b J.n) (round_possible b s)
 
   -- the results of a round are the possible ones
-  pub possible_says : (b : ℕ → ℕ) → RoundStep J a b ↔ Among (row b J.n) (possible J a)
+  pub possible_says : (b : ℕ → ℕ) → RoundStep J a b ↔ Contains (possible J a) (row b J.n)
   possible_says b = (
     round_possible b,
     λ m. round_alike J a (at (row b J.n)) b (alike_back J b (at (row b J.n)) (as_list J b)) (possible_round (row b J.n) m),
@@ -91,9 +93,9 @@ module _ (job start : List ℕ) (ok : NotRefused job start) where
 module _ (job start : List ℕ) where
   -- a round's results are exactly the listed ones
   pub results_say : (plans : List (List ℕ)) → Holds (results job start plans)
-      → (b : ℕ → ℕ) → RoundStep (job_in job) (at start) b ↔ Among (row b (job_in job).n) plans
+      → (b : ℕ → ℕ) → RoundStep (job_in job) (at start) b ↔ Contains plans (row b (job_in job).n)
   results_say plans h b =
-      subst (λ (l : List (List ℕ)). RoundStep (job_in job) (at start) b ↔ Among (row b (job_in job).n) l) h.1 (possible_says job start h.0 b)
+      subst (λ (l : List (List ℕ)). RoundStep (job_in job) (at start) b ↔ Contains l (row b (job_in job).n)) h.1 (possible_says job start h.0 b)
 
   -- every round has these loads and totals
   pub always_says : (v : ℕ) (loads totals : List ℕ) → Holds (always job start v loads totals) → (b : ℕ → ℕ) → RoundStep (job_in job) (at start) b

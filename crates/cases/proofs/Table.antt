@@ -7,6 +7,7 @@ use Rattle.laws.specs.Sum.{sum, greatest}
 use Rattle.laws.specs.Row.{row}
 use Rattle.laws.specs.Lowest.{first_where}
 use Rattle.laws.specs.Test.{every}
+use Rattle.words.specs.declared.Reason.TheVariants as reason
 use Rattle.words.specs.Number.{word}
 use Rattle.words.specs.Verdict.{refuse_if, ◌then◌, first_refusal}
 use Rattle.job.specs.Job.{nets_at}
@@ -33,7 +34,7 @@ use Rattle.audit.specs.Audit.{
 }
 use Rattle.cases.specs.Table.{table, rows_of}
 use Rattle.cases.specs.Holds.{Holds, AllHold}
-use Rattle.cases.proofs.Each.{each_picked}
+use Rattle.cases.proofs.Ways.{each_kept}
 use Rattle.cases.proofs.Texts.{case_two, board_four, leading_zero, too_large, carriage_return, too_many, no_line, two_spaces, no_newline, one_line_more}
 
 -- one row and the rest
@@ -77,17 +78,17 @@ table_holds =
     and (refl, refl, refl)
     and (refl, refl, refl)
     and case_two
-    and board_four
-    and leading_zero
-    and too_large
-    and carriage_return
-    and too_many
-    and no_line
-    and two_spaces
-    and no_newline
-    and one_line_more
+    and (reason.TextBreaks, refl, board_four)
+    and (reason.TextBreaks, refl, leading_zero)
+    and (reason.TextBreaks, refl, too_large)
+    and (reason.TextBreaks, refl, carriage_return)
+    and (reason.TextBreaks, refl, too_many)
+    and (reason.TextBreaks, refl, no_line)
+    and (reason.TextBreaks, refl, two_spaces)
+    and (reason.TextBreaks, refl, no_newline)
+    and (reason.TextGoesOn, refl, one_line_more)
     and tt
 
 -- so the rows of each case do
 pub case_holds : (k : ℕ) → AllHold (rows_of k)
-case_holds k = each_picked (λ r. Holds r.1) (λ r. eqb r.0 k) table table_holds
+case_holds k = each_kept (λ r. eqb r.0 k) (λ r. Holds r.1) table table_holds

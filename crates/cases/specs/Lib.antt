@@ -1,5 +1,5 @@
 -- The cases of document 01 that are proved: the table, and what its rows mean.
-pub mod Each
+pub mod Ways
 pub mod Table
 pub mod Rounds
 pub mod Holds

@@ -1,13 +1,13 @@
 -- Document 01's cases 1 to 9 as one table: what that page says of each, in its order, and what document 02 says since. Holds.antt says what a
 -- row means.
 use Rattle.std.specs.Prelude.{List, [], ◌∷◌, ℕ, ◌+◌, eqb, length, replicate}
+use Rattle.std.specs.List.{filter}
 use Rattle.words.specs.Number.{bytes}
 use Rattle.job_writer.specs.Write.{job_of}
 use Rattle.job.specs.Job.{job_in, wired_in}
 use Rattle.board.specs.Netlist.{Netlist}
 use Rattle.text.specs.Letters.{letters}
 use Rattle.finish.specs.Plan.{dealt}
-use Rattle.cases.specs.Each.{picked}
 
 -- ---- what a row may say. A job and a sheet are bytes; a plan and a start are lists of crossbar numbers, by net; J is a netlist
 
@@ -154,4 +154,4 @@ table =
 
 -- the rows of one case
 abbrev pub rows_of : ℕ → List (ℕ × Row)
-rows_of k = picked (λ r. eqb r.0 k) table
+rows_of k = filter (λ r. eqb r.0 k) table

@@ -1,24 +1,27 @@
 // The bytes at fault.
 #![tactic(auto)]
 
-ghost use Rattle.std.specs.Prelude.{◌≡◌, cond, ◌+◌, ◌≤◌, length};
-ghost use Rattle.words.specs.Lent.{Stretch};
-ghost use Rattle.job.specs.Check.{WellFormed};
+ghost use Rattle.std.specs.Prelude.{◌≡◌};
 ghost use Rattle.evidence.specs.Evidence.{in_job, in_sheet, nothing, job_fault, sheet_fault, audit_fault, Evidence};
 
 use audit::audit::check_sheet;
+use job::Job;
 use job::read::{first_at, nets_at};
 use job::well_formed::check_job;
-use job::{Checked, Head};
 use sheet::totals_at;
-use words::number::wide;
-use words::{Place, Refusal, Verdict};
+use words::{Place, Reason, Refusal};
 
-// A stretch of the job or of the sheet.
-#[derive(Clone, Copy)]
+// One of the two files that an audit is asked of.
+#[derive(Clone, Copy, Debug, PartialEq, Eq)]
+pub enum File {
+    Job,
+    Sheet,
+}
+
+// A stretch of the job or of the sheet. Numbers and no slice: the C interface answers with these three.
+#[derive(Clone, Copy, Debug, PartialEq, Eq)]
 pub struct Fault {
-    // In the sheet; else in the job.
-    pub sheet: bool,
+    pub file: File,
     pub start: usize,
     pub long: usize,
 }
@@ -28,76 +31,49 @@ fn in_job(start: usize, long: usize) -> Fault
     ensures { result ≡ in_job start long }
 {
     Fault {
-        sheet: false,
+        file: File::Job,
         start,
         long,
     }
 }
 
-// The empty start of the job.
+// One number of the sheet.
+fn in_sheet(start: usize) -> Fault
+    ensures { result ≡ in_sheet start 2 }
+{
+    Fault {
+        file: File::Sheet,
+        start,
+        long: 2,
+    }
+}
+
+// The empty start of the job. No Option: where nothing is at fault, `evidence` hands back this stretch (`audit_fault`).
 fn nothing() -> Fault
     ensures { result ≡ nothing }
 {
     in_job(0, 0)
 }
 
-// This stretch, where a refusal has the number that points there.
-fn fault_if(points: bool, fault: Fault) -> Fault
-    ensures { result ≡ cond points fault nothing }
-{
-    if points {
-        return fault;
-    }
-    nothing()
-}
-
 // What a refusal of the job points at.
 fn job_fault(job: &[u8], refusal: Refusal) -> Fault
     ensures { result ≡ job_fault job.now refusal }
 {
-    let number = refusal.number;
-    let place = refusal.place;
-    match place {
-        Place::End(i, at) => {
-            let wrong = in_job(at, 2);
-            let both = in_job(first_at(nets_at(job), wide(i.0)), 4);
-            if number == 9 {
-                return wrong;
-            }
-            if number == 27 {
-                return wrong;
-            }
-            fault_if(number == 10, both)
-        }
+    match (refusal.reason, refusal.place) {
+        (Reason::FirstEnd | Reason::SecondEnd, Place::End(_, at)) => in_job(at, 2),
+        (Reason::SameEnd, Place::End(i, _)) => in_job(first_at(nets_at(job), i.0 as usize), 4),
         _ => nothing(),
     }
 }
 
-// Two bytes of the sheet.
-fn two_bytes(start: usize) -> Fault
-    ensures { result ≡ in_sheet start 2 }
-{
-    Fault {
-        sheet: true,
-        start,
-        long: 2,
-    }
-}
-
 // What a refusal of the sheet points at.
-fn sheet_fault(job: &[u8], head: Head, refusal: Refusal) -> Fault
-    requires { WellFormed job.now head }
-    ensures { result ≡ sheet_fault job.now refusal }
+fn sheet_fault(job: &Job, refusal: Refusal) -> Fault
+    ensures { result ≡ sheet_fault job.now.bytes.now refusal }
 {
-    let number = refusal.number;
-    let place = refusal.place;
-    match place {
-        Place::Byte(p) => fault_if(number == 22, two_bytes(p)),
-        Place::Net(i) => fault_if(number == 23, two_bytes(head.start + 2 * wide(i.0))),
-        Place::Crossbar(x) => fault_if(
-            number == 26,
-            two_bytes(totals_at(job, head) + 2 * wide(x.0)),
-        ),
+    match (refusal.reason, refusal.place) {
+        (Reason::SheetHead, Place::Byte(p)) => in_sheet(p),
+        (Reason::SheetCrossbar, Place::Net(i)) => in_sheet(job.head.start + 2 * i.0 as usize),
+        (Reason::WrittenTotal, Place::Crossbar(x)) => in_sheet(totals_at(job) + 2 * x.0 as usize),
         _ => nothing(),
     }
 }
@@ -106,25 +82,13 @@ fn sheet_fault(job: &[u8], head: Head, refusal: Refusal) -> Fault
 pub fn find_fault(job: &[u8], sheet: &[u8]) -> Fault
     ensures { result ≡ audit_fault job.now sheet.now }
 {
-    let checked = check_job(job);
-    match checked {
-        Checked::Refused(r) => job_fault(job, r),
-        Checked::Passed(head) => {
-            let verdict = check_sheet(job, head, sheet);
-            match verdict {
-                Verdict::Refused(r) => sheet_fault(job, head, r),
-                Verdict::Done => nothing(),
-            }
-        }
+    match check_job(job) {
+        Err(refusal) => job_fault(job, refusal),
+        Ok(checked) => match check_sheet(&checked, sheet) {
+            Err(refusal) => sheet_fault(&checked, refusal),
+            Ok(()) => nothing(),
+        },
     }
-}
-
-// `long` bytes of s from `start` on.
-fn stretch(s: &[u8], start: usize, long: usize) -> &[u8]
-    requires { start + long ≤ length s.now }
-    ensures { Stretch s.entry start long result }
-{
-    &s[start..start + long]
 }
 
 // Those bytes themselves, as the caller's own stretch of job or sheet.
@@ -132,8 +96,9 @@ pub fn evidence<'a>(job: &'a [u8], sheet: &'a [u8]) -> &'a [u8]
     ensures { Evidence job.entry sheet.entry result }
 {
     let fault = find_fault(job, sheet);
-    if fault.sheet {
-        return stretch(sheet, fault.start, fault.long);
+    let end = fault.start + fault.long;
+    match fault.file {
+        File::Job => &job[fault.start..end],
+        File::Sheet => &sheet[fault.start..end],
     }
-    stretch(job, fault.start, fault.long)
 }

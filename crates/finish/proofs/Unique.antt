@@ -6,17 +6,16 @@ use mathlib.Core.List.{List}
 use mathlib.Core.Logic.{◌↔◌}
 use Prim.Native.Nat.{ℕ}
 use lib.ListN.{length}
+use Rattle.std.specs.Prelude.{Ok, Err}
 use Rattle.laws.specs.Row.{at}
-use Rattle.words.specs.declared.Verdict.{Verdict}
-use Rattle.words.specs.declared.Verdict.TheVariants as verdict
+use Rattle.words.specs.Verdict.{Verdict}
 use Rattle.job.specs.Job.{job_in}
 use Rattle.board.specs.Board.{Legal}
 use Rattle.refusals.specs.Start.{plan_verdict, round_verdict}
 use Rattle.round.specs.OneRound.{Untouched}
 use Rattle.round.specs.Twice.{SameBeyond}
 use Rattle.round.proofs.Unique.{accepted_twice, untouched_twice, finished_at_once, finished_excess_once}
-use Rattle.finish.specs.declared.Finish.{Finish}
-use Rattle.finish.specs.declared.Finish.TheVariants.{Done, Refused}
+use Rattle.finish.specs.Answer.{Finish}
 use Rattle.finish.specs.Finish.{AnsweredBy, FinishedIn, FinishCall}
 use Rattle.finish.specs.Plan.{dealt, PlannedIn, PlanCall}
 use Rattle.finish.specs.Twice.{SameFinish}
@@ -27,12 +26,12 @@ module _ (job plan₀ plan plan' s₀ s s' : List ℕ) where
   module _ (made made' : ℕ → ℕ → Type 0) (same : (k e k' e' : ℕ) → made k e → made' k' e' → (e ≡ e') × SameBeyond job plan plan' s s') where
     answered_once : (v : Verdict) (r r' : Finish) → AnsweredBy v r (Untouched plan₀ plan s₀ s) made → AnsweredBy v r' (Untouched plan₀ plan' s₀ s') made'
         → SameFinish job plan plan' s s' r r'
-    answered_once verdict.Done (Done k e) (Done k' e') one other = same k e k' e' one other
-    answered_once verdict.Done (Done k e) (Refused r') one other = absurd other
-    answered_once verdict.Done (Refused r) r' one other = absurd one
-    answered_once (verdict.Refused q) (Done k e) r' one other = absurd one
-    answered_once (verdict.Refused q) (Refused r) (Done k e) one other = absurd other
-    answered_once (verdict.Refused q) (Refused r) (Refused r') one other =
+    answered_once (Ok _) (Ok d) (Ok d') one other = same d.made d.excess d'.made d'.excess one other
+    answered_once (Ok _) (Ok d) (Err r') one other = absurd other
+    answered_once (Ok _) (Err r) r' one other = absurd one
+    answered_once (Err q) (Ok d) r' one other = absurd one
+    answered_once (Err q) (Err r) (Ok d') one other = absurd other
+    answered_once (Err q) (Err r) (Err r') one other =
         let m = untouched_twice job plan₀ plan plan' s₀ s s' one.1 other.1 in
         (one.0 ∙ sym other.0, m.0, m.1)
 
@@ -52,8 +51,8 @@ module _ (job plan₀ plan plan' s₀ s s' : List ℕ) where
 
 -- the round count is open where the start is not legal, and 0 where it is
 module _ (job plan₀ plan s₀ s : List ℕ) (k e : ℕ) where
-  pub finish_at_once : FinishCall job plan₀ plan s₀ s (Done k e) → (k ≡ 0) ↔ Legal (job_in job) (at plan₀)
+  pub finish_at_once : FinishCall job plan₀ plan s₀ s (Ok (record { made = k; excess = e })) → (k ≡ 0) ↔ Legal (job_in job) (at plan₀)
   finish_at_once call = finished_at_once (job_in job) (at plan₀) (done_finished job plan₀ plan s₀ s k e call).1.finished
 
-  pub plan_at_once : PlanCall job plan₀ plan s₀ s (Done k e) → (k ≡ 0) ↔ Legal (job_in job) (at (dealt (job_in job) plan₀))
+  pub plan_at_once : PlanCall job plan₀ plan s₀ s (Ok (record { made = k; excess = e })) → (k ≡ 0) ↔ Legal (job_in job) (at (dealt (job_in job) plan₀))
   plan_at_once call = finished_at_once (job_in job) (at (dealt (job_in job) plan₀)) (done_planned job plan₀ plan s₀ s k e call).1.finished

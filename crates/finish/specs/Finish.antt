@@ -1,24 +1,23 @@
 -- Finish as a call: its answer, and by the answer what becomes of the lent memory.
-use Rattle.std.specs.Prelude.{◌≡◌, List, ℕ, length, drop}
+use Rattle.std.specs.Prelude.{◌≡◌, List, ℕ, length, drop, Ok, Err}
 use Rattle.laws.specs.Row.{at}
-use Rattle.words.specs.declared.Verdict.{Verdict}
-use Rattle.words.specs.declared.Verdict.TheVariants as verdict
-use Rattle.job.specs.declared.Head.{Head}
+use Rattle.words.specs.Verdict.{Verdict}
+use Rattle.job.specs.declared.Job.{Job}
 use Rattle.job.specs.Job.{job_in}
+use Rattle.job.specs.Board.{board_of}
 use Rattle.board.specs.Board.{Legal}
 use Rattle.scratch.specs.Scratch.{scratch_long}
 use Rattle.round.specs.Round.{Chain, Finished}
 use Rattle.refusals.specs.Start.{round_verdict, Ready}
 use Rattle.round.specs.OneRound.{Untouched, Accepted}
-use Rattle.finish.specs.declared.Finish.{Finish}
-use Rattle.finish.specs.declared.Finish.TheVariants.{Done, Refused}
+use Rattle.finish.specs.Answer.{Finish}
 
 -- a refusal is answered with exactly that refusal, and then `kept` holds; otherwise k rounds and excess e are answered, and `made k e` holds
 abbrev pub AnsweredBy : Verdict → Finish → Type 0 → (ℕ → ℕ → Type 0) → Type 0
-AnsweredBy (verdict.Refused q) (Refused r) kept made = (r ≡ q) × kept
-AnsweredBy (verdict.Refused q) (Done k e) kept made = ⊥
-AnsweredBy verdict.Done (Refused r) kept made = ⊥
-AnsweredBy verdict.Done (Done k e) kept made = made k e
+AnsweredBy (Err q) (Err r) kept made = (r ≡ q) × kept
+AnsweredBy (Err q) (Ok rounds) kept made = ⊥
+AnsweredBy (Ok _) (Err r) kept made = ⊥
+AnsweredBy (Ok _) (Ok rounds) kept made = made rounds.made rounds.excess
 
 -- k rounds from plan₀ to a legal plan, from the starting excess e
 pub record FinishedIn (job plan₀ plan s₀ s : List ℕ) (k e : ℕ) : Type 0 where
@@ -31,22 +30,15 @@ pub record FinishCall (job plan₀ plan s₀ s : List ℕ) (r : Finish) : Type 0
 -- ---- the rounds inside, which leave their work in the scratch
 
 -- k rounds were made, and another may be
-pub record Chained (job : List ℕ) (h : Head) (plan₀ plan s₀ s : List ℕ) (k : ℕ) : Type 0 where
-  pub ready : Ready job h plan s
-  pub chain : Chain (job_in job) (at plan₀) k (at plan)
+pub record Chained (job : Job) (plan₀ plan s₀ s : List ℕ) (k : ℕ) : Type 0 where
+  pub ready : Ready job plan s
+  pub chain : Chain (board_of job) (at plan₀) k (at plan)
   pub long : length plan ≡ length plan₀
-  pub beyond : drop h.n plan ≡ drop h.n plan₀
+  pub beyond : drop job.head.n plan ≡ drop job.head.n plan₀
   pub scratch_is_long : length s ≡ length s₀
   pub scratch_beyond : drop scratch_long s ≡ drop scratch_long s₀
 
 -- and no other is needed
-pub record SettledIn (job : List ℕ) (h : Head) (plan₀ plan s₀ s : List ℕ) (k : ℕ) : Type 0 where
-  pub chained : Chained job h plan₀ plan s₀ s k
-  pub legal : Legal (job_in job) (at plan)
-
--- the answer where nothing is refused
-pub record Answer (job plan₀ plan s₀ s : List ℕ) (r : Finish) : Type 0 where
-  pub k : ℕ
-  pub e : ℕ
-  pub done : r ≡ Done k e
-  pub finished : FinishedIn job plan₀ plan s₀ s k e
+pub record SettledIn (job : Job) (plan₀ plan s₀ s : List ℕ) (k : ℕ) : Type 0 where
+  pub chained : Chained job plan₀ plan s₀ s k
+  pub legal : Legal (board_of job) (at plan)

@@ -1,4 +1,5 @@
 -- Finish and plan as calls.
+pub mod Answer
 pub mod Finish
 pub mod Plan
 pub mod Condition3

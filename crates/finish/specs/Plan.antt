@@ -8,7 +8,7 @@ use Rattle.job.specs.Job.{job_in}
 use Rattle.round.specs.Round.{Finished, Planned}
 use Rattle.refusals.specs.Start.{plan_verdict}
 use Rattle.round.specs.OneRound.{Untouched, Accepted}
-use Rattle.finish.specs.declared.Finish.{Finish}
+use Rattle.finish.specs.Answer.{Finish}
 use Rattle.finish.specs.Finish.{AnsweredBy}
 
 -- the first n nets dealt into the room for them

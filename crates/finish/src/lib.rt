@@ -3,13 +3,16 @@
 
 pub mod calls;
 pub mod deal;
-pub mod rounds;
+pub mod settle;
 
 use words::Refusal;
 
-// How many rounds were made, and the excess before the first; or the call is refused.
-#[derive(Clone, Copy)]
-pub enum Finish {
-    Done(usize, usize),
-    Refused(Refusal),
+// How many rounds were made, and the excess before the first.
+#[derive(Clone, Copy, Debug, PartialEq, Eq)]
+pub struct Rounds {
+    pub made: usize,
+    pub excess: usize,
 }
+
+// The rounds, or the call is refused.
+pub type Finish = Result<Rounds, Refusal>;

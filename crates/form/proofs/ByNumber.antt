@@ -5,11 +5,13 @@ use mathlib.Core.List.{List, ◌∷◌, ◌++◌}
 use Prim.Native.Nat.{ℕ, suc, ◌+◌, ◌-◌, ◌*◌, ◌≤◌, ◌<◌}
 use native.Mathlib.Omega.{arith}
 use lib.ListN.{length, get_or, drop, length-drop}
-use lib.Seq.{drop-cons, drop-drop, get_or-drop}
-use Rattle.form.specs.declared.NetRead.{NetRead}
+use lib.Seq.{drop-cons, get_or-drop}
+use Rattle.std.specs.Prelude.{Ok, Err}
+use Rattle.form.specs.declared.Read.{Read}
+use Rattle.form.specs.declared.Broken.{Broken}
 use Rattle.form.specs.Form.{net_line, nets_text, EndsOf}
 use Rattle.form.specs.Walk.{NetAt}
-use Rattle.form.proofs.NetLines.{line_known}
+use Rattle.form.proofs.NetLines.{line_known, line_unbroken}
 
 pub lines_from : (n : ℕ) (ends : List ℕ) → length ends ≡ 2 * n → (i : ℕ) → i < n → nets_text (drop (2 * i) ends) ≡ net_line (get_or ends (2 * i) 0) (get_or ends (2 * i + 1) 0) ++ nets_text (drop (2 * (i + 1)) ends)
 unfolding nets_text
@@ -26,9 +28,10 @@ module _ (n : ℕ) (ends : List ℕ) (of : EndsOf n ends) where
   ends_behind i h = record { long = length-drop (2 * i) ends ∙ omega (arith, of.long); small = λ k. rw (get_or-drop (2 * i) ends k 0) (of.small (2 * i + k)) }
 
   -- the line of net i, read where it starts
-  pub line_at : (t : List ℕ) (a i : ℕ) (r : NetRead) → i < n → drop a t ≡ nets_text (drop (2 * i) ends) → NetAt (drop a t) r
-      → (r.first ≡ get_or ends (2 * i) 0) × (r.second ≡ get_or ends (2 * i + 1) 0) × (drop (a + r.long) t ≡ nets_text (drop (2 * (i + 1)) ends))
-  line_at t a i r h e at =
-      let z = line_known (n - (i + 1)) (get_or ends (2 * i) 0) (get_or ends (2 * i + 1) 0) (drop a t) (drop (2 * (i + 1)) ends) r (of.small (2 * i)) (of.small (2 * i + 1))
-      (ends_behind (i + 1) (omega arith)) (e ∙ lines_from n ends of.long i h) at in
-      (z.0, z.1, sym (drop-drop r.long a t) ∙ z.2)
+  module _ (t : List ℕ) (a i : ℕ) (h : i < n) (e : drop a t ≡ nets_text (drop (2 * i) ends)) where
+    pub line_at : (r : Read (ℕ × ℕ)) → NetAt t a (Ok r)
+        → (r.value.0 ≡ get_or ends (2 * i) 0) × (r.value.1 ≡ get_or ends (2 * i + 1) 0) × (drop r.end t ≡ nets_text (drop (2 * (i + 1)) ends))
+    line_at r = line_known (n - (i + 1)) _ _ t _ a (of.small (2 * i)) (of.small (2 * i + 1)) (ends_behind (i + 1) (omega arith)) (e ∙ lines_from n ends of.long i h) r
+
+    pub line_stands : (b : Broken) → NetAt t a (Err b) → ⊥
+    line_stands b = line_unbroken (n - (i + 1)) _ _ t _ a (of.small (2 * i)) (of.small (2 * i + 1)) (ends_behind (i + 1) (omega arith)) (e ∙ lines_from n ends of.long i h) b

@@ -1,20 +1,20 @@
 -- What stands before the nets, piece by piece: a word, or a number and the end of its line.
 -- Assumes nothing.
 use mathlib.Core.Path.{◌≡◌, refl, sym, ap, subst, ◌∙◌}
-use mathlib.Core.Bool.{Bool, true, false}
+use mathlib.Core.Bool.{false}
 use mathlib.Core.List.{List, [], ◌∷◌, ◌++◌, append_assoc}
 use Prim.Native.Nat.{ℕ, ◌+◌, ◌-◌, ◌≤◌, ◌<◌}
-use native.Mathlib.Numerals.{add-one}
 use native.Mathlib.Omega.{arith}
 use lib.ListN.{length, get_or, take, drop, length-append, length-drop, take-append-drop, get_or-append}
-use lib.Seq.{take-add, take-suc, take_all, length-take-le, drop_at, get_or_at}
-use Rattle.words.proofs.Bytes.{lent_to_end}
+use lib.Seq.{take-add, length-take-le, drop_at, get_or_at}
 use Rattle.text.specs.Forms.{decimal}
-use Rattle.form.specs.declared.NumberRead.{NumberRead}
+use Rattle.std.specs.Prelude.{Result, Ok, Err}
+use Rattle.form.specs.declared.Read.{Read}
+use Rattle.form.specs.declared.Broken.{Broken}
 use Rattle.form.specs.Form.{newline, board_line, nets_word, number_then, board_text, count_text, nets_text, text_of, IsText, IsNets}
 use Rattle.form.specs.Breaks.{Begins}
-use Rattle.form.specs.Walk.{Stops, NumberAt, WordAt, IsCounted, CountBy, CountAt, BoardBy, BoardAt, breaks_at}
-use Rattle.form.proofs.Stopping.{From, stuck, from_as, from_then, from_stops, stops_as}
+use Rattle.form.specs.Walk.{Stops, Short, Stuck, NumberAt, NoWord, WordAt, IsCounted, CountAt, BoardAt}
+use Rattle.form.proofs.Stopping.{From, stuck, drop_on, Goes, goes_start, goes_as, goes_then, goes_stuck}
 use Rattle.form.proofs.Numbers.{Num, number_then_append, number_from, number_breaks}
 use Rattle.form.proofs.NetLines.{some_nets}
 
@@ -29,24 +29,21 @@ pub record Behind (word : List ℕ) (M : List ℕ → Type 0) (t : List ℕ) : T
 pub strip : (w s u : List ℕ) → w ++ s ≡ w ++ u → u ≡ s
 strip w s u e = sym (drop_at w u (length w) refl) ∙ ap (drop (length w)) (sym e) ∙ drop_at w s (length w) refl
 
-module _ (word : List ℕ) (M : List ℕ → Type 0) (t : List ℕ) (k : ℕ) (at : WordAt word t k) where
-  pub word_whole : length word ≤ k → take k t ≡ word
-  word_whole h = at.same ∙ take_all k word h
-
-  pub word_from : length word ≤ k → From (Behind word M) t k M
-  word_from h =
+module _ (word : List ℕ) (M : List ℕ → Type 0) (t : List ℕ) where
+  pub word_from : (k : ℕ) → k ≤ length t → take k t ≡ word → From (Behind word M) t k M
+  word_from k within whole =
       record {
-        within = at.within.1;
-        forth = λ s b. subst M (strip word s b.s (ap (λ (p : List ℕ). p ++ s) (sym (word_whole h)) ∙ b.is)) b.more;
-        back = λ s m. record { s = s; is = ap (λ (p : List ℕ). p ++ s) (word_whole h); more = m };
+        within = within;
+        forth = λ s b. subst M (strip word s b.s (ap (λ (p : List ℕ). p ++ s) (sym whole) ∙ b.is)) b.more;
+        back = λ s m. record { s = s; is = ap (λ (p : List ℕ). p ++ s) whole; more = m };
       }
 
-  pub word_breaks : k < length word → Begins M [] → Stops (Behind word M) t k false
-  word_breaks h some =
-      stuck (Behind word M) t k at.within.1
+  pub word_breaks : (k : ℕ) → k ≤ length t → NoWord word t k → Begins M [] → Stops (Behind word M) t k false
+  word_breaks k within at some =
+      stuck (Behind word M) t k within
       (record { rest = drop k word ++ some.rest; text = record { s = some.rest; is = goes_on; more = some.text } })
-      (λ b. absurd (omega (arith, ap length b.is, length-append word b.s, length-take-le k t at.within.1)))
-      (λ l s b. at.other h l (next s b.s b.is))
+      (λ b. absurd (omega (arith, at.short, ap length b.is, length-append word b.s, length-take-le k t within)))
+      (λ l s b. at.other l (next s b.s b.is))
     where
       goes_on : take k t ++ (drop k word ++ some.rest) ≡ word ++ some.rest
       goes_on =
@@ -56,9 +53,9 @@ module _ (word : List ℕ) (M : List ℕ → Type 0) (t : List ℕ) (k : ℕ) (a
 
       next : (s u : List ℕ) → take k t ++ (get_or t k 0 ∷ s) ≡ word ++ u → get_or t k 0 ≡ get_or word k 0
       next s u e =
-          sym (get_or_at (take k t) (get_or t k 0) s 0 k (length-take-le k t at.within.1))
+          sym (get_or_at (take k t) (get_or t k 0) s 0 k (length-take-le k t within))
           ∙ ap (λ (p : List ℕ). get_or p k 0) e
-          ∙ get_or-append word u 0 k h
+          ∙ get_or-append word u 0 k at.short
 
 -- ---- the texts of the form, by what comes first
 
@@ -149,90 +146,117 @@ some_second = some_number _ some_third
 some_first : Begins First []
 some_first = some_number _ some_second
 
--- ---- a number more, and stopped in it, of any texts L
+-- ---- a word or a number more, and stopped in it, of any texts L
 
-module _ (L : List ℕ → Type 0) (t : List ℕ) (a : ℕ) (M : ℕ → List ℕ → Type 0) (r : NumberRead) (here : From L t a (Num newline M)) (at : NumberAt newline (drop a t) r) where
-  number_goes : r.whole ≡ true → From L t (a + r.long) (M r.value)
-  number_goes h = from_then L (Num newline M) (M r.value) t a r.long here (number_from newline refl M (drop a t) r.value r.long at.small at.within (rw h at at.by))
+inside : (t : List ℕ) (a e : ℕ) → e ≤ length t → e - a ≤ length (drop a t)
+inside t a e h = omega (arith, h, length-drop a t)
 
-  number_stops : ((v : ℕ) → v < 65536 → Begins (M v) []) → r.whole ≡ false → Stops L t (a + r.long) false
-  number_stops some h = from_stops L (Num newline M) t a r.long false here (number_breaks newline refl M (drop a t) some r.value r.long at.small at.within (rw h at at.by))
+module _ (L : List ℕ → Type 0) (t : List ℕ) (a e : ℕ) where
+  module _ (word : List ℕ) (M : List ℕ → Type 0) (here : Goes L t a e (Behind word M)) where
+    word_goes : (end : ℕ) → WordAt word t e (Ok end) → Goes L t a end M
+    word_goes end at =
+        goes_then L (Behind word M) t a e here M end
+        (record { past = at.past; within = at.within; from = word_from word M (drop e t) (end - e) (inside t e end at.within) at.bytes })
 
-  -- its text behind what came before
-  number_behind : (p : List ℕ) → take a t ≡ p → r.whole ≡ true → take (a + r.long) t ≡ p ++ number_then r.value newline
-  number_behind p e h = take-add a r.long t ∙ rw (e, rw h at at.by)
+    word_stops : Begins M [] → (b : Broken) → WordAt word t e (Err b) → Stuck (Short L) t a b
+    word_stops some b at =
+        goes_stuck L (Behind word M) t a e here b
+        (record { past = at.past; within = at.within; breaks = word_breaks word M (drop e t) (b.0 - e) (inside t e b.0 at.within) at.breaks some })
 
-  past_within : a + r.long ≤ length t
-  past_within = omega (arith, here.within, at.within, length-drop a t)
+  module _ (M : ℕ → List ℕ → Type 0) (here : Goes L t a e (Num newline M)) where
+    number_goes : (r : Read ℕ) → NumberAt newline t e (Ok r) → Goes L t a r.end (M r.value)
+    number_goes r at =
+        goes_then L (Num newline M) t a e here (M r.value) r.end
+        (record { past = at.past; within = at.within; from = number_from newline refl M (drop e t) r.value (r.end - e) at.bytes.small (inside t e r.end at.within) at.bytes.is })
+
+    number_stops : ((v : ℕ) → v < 65536 → Begins (M v) []) → (b : Broken) → NumberAt newline t e (Err b) → Stuck (Short L) t a b
+    number_stops some b at =
+        goes_stuck L (Num newline M) t a e here b
+        (record {
+          past = at.past;
+          within = at.within;
+          breaks = number_breaks newline refl M (drop e t) some at.breaks.v (b.0 - e) at.breaks.small (inside t e b.0 at.within) at.breaks.breaks;
+        })
+
+-- the bytes from a on: those to e, and those of the piece that stands there
+pub bytes_more : (t : List ℕ) (a e end : ℕ) (p s : List ℕ) → a ≤ e → e ≤ end → take (e - a) (drop a t) ≡ p → take (end - e) (drop e t) ≡ s → take (end - a) (drop a t) ≡ p ++ s
+bytes_more t a e end p s h l q r =
+    let z : e - a + (end - e) ≡ end - a = omega arith in
+    let both : take (e - a + (end - e)) (drop a t) ≡ p ++ s = take-add (e - a) (end - e) (drop a t) ∙ rw (drop_on t a e h, q, r) in
+    rw z at both
 
 -- ---- the walk over the board
 
-board_stops : (t : List ℕ) (k : ℕ) → Stops IsText t k false → BoardAt t (breaks_at k)
-board_stops t k stops = record { within = stops.longest.within; f_small = omega arith; c_small = omega arith; m_small = omega arith; by = stops }
+module _ (t : List ℕ) where
+  at_board : Goes IsText t 0 0 Board
+  at_board = goes_as Board Board t 0 0 (goes_start Board t 0 (omega arith)) IsText board_forth board_back
 
-module _ (t : List ℕ) (a : ℕ) (at : WordAt board_line t a) where
-  pub board_breaks : a < 8 → BoardAt t (breaks_at a)
-  board_breaks h = board_stops t a (stops_as IsText Board t a false board_forth board_back (word_breaks board_line First t a at h some_first))
+  pub board_breaks : (b : Broken) → WordAt board_line t 0 (Err b) → BoardAt t (Err b)
+  board_breaks = word_stops IsText t 0 0 board_line First at_board some_first
 
-  module _ (h : 8 ≤ a) (f : NumberRead) (at_f : NumberAt newline (drop a t) f) where
-    at_first : From IsText t a First
-    at_first = from_as IsText Board First t a board_forth board_back (word_from board_line First t a at h)
+  module _ (start : ℕ) (at : WordAt board_line t 0 (Ok start)) where
+    at_first : Goes IsText t 0 start First
+    at_first = word_goes IsText t 0 0 board_line First at_board start at
 
-    pub f_breaks : f.whole ≡ false → BoardAt t (breaks_at (a + f.long))
-    f_breaks e = board_stops t _ (number_stops IsText t a _ f at_first at_f (λ _ _. some_second) e)
+    pub f_breaks : (b : Broken) → NumberAt newline t start (Err b) → BoardAt t (Err b)
+    f_breaks = number_stops IsText t 0 start _ at_first (λ _ _. some_second)
 
-    module _ (whole-f : f.whole ≡ true) (c : NumberRead) (at_c : NumberAt newline (drop (a + f.long) t) c) where
-      at_second : From IsText t (a + f.long) Second
-      at_second = number_goes IsText t a _ f at_first at_f whole-f
+    module _ (f : Read ℕ) (at_f : NumberAt newline t start (Ok f)) where
+      at_second : Goes IsText t 0 f.end Second
+      at_second = number_goes IsText t 0 start _ at_first f at_f
 
-      pub c_breaks : c.whole ≡ false → BoardAt t (breaks_at (a + f.long + c.long))
-      c_breaks e = board_stops t _ (number_stops IsText t _ _ c at_second at_c (λ _ _. some_third) e)
+      pub c_breaks : (b : Broken) → NumberAt newline t f.end (Err b) → BoardAt t (Err b)
+      c_breaks = number_stops IsText t 0 f.end _ at_second (λ _ _. some_third)
 
-      module _ (whole-c : c.whole ≡ true) (m : NumberRead) (at-m : NumberAt newline (drop (a + f.long + c.long) t) m) where
-        at_third : From IsText t (a + f.long + c.long) Third
-        at_third = number_goes IsText t _ _ c at_second at_c whole-c
+      module _ (c : Read ℕ) (at_c : NumberAt newline t f.end (Ok c)) where
+        at_third : Goes IsText t 0 c.end Third
+        at_third = number_goes IsText t 0 f.end _ at_second c at_c
 
-        whole_board : m.whole ≡ true → take (a + f.long + c.long + m.long) t ≡ board_text f.value c.value m.value
+        pub m_breaks : (b : Broken) → NumberAt newline t c.end (Err b) → BoardAt t (Err b)
+        m_breaks = number_stops IsText t 0 c.end _ at_third (λ _ _. some_counted)
+
+        pub board_read : (m : Read ℕ) → NumberAt newline t c.end (Ok m) → BoardAt t (Ok (record { value = record { f = f.value; c = c.value; m = m.value }; end = m.end }))
         unfolding board_text
-        whole_board e =
+        board_read m at-m =
             let F = number_then f.value newline in let C = number_then c.value newline in
-            number_behind IsText t _ _ m at_third at-m _ (number_behind IsText t _ _ c at_second at_c _ (number_behind IsText t _ _ f at_first at_f _ (word_whole board_line First t a at h) whole-f) whole-c) e
-            ∙ append_assoc (board_line ++ F) C _ ∙ append_assoc board_line F _
-
-        pub board_read : BoardAt t (record { f = f.value; c = c.value; m = m.value; long = a + f.long + c.long + m.long; whole = m.whole })
-        board_read =
-            record { within = past_within IsText t _ _ m at_third at-m; f_small = at_f.small; c_small = at_c.small; m_small = at-m.small; by = by_last m.whole refl }
-          where
-            by_last : (w : Bool) → m.whole ≡ w → BoardBy w t f.value c.value m.value (a + f.long + c.long + m.long)
-            by_last true e = whole_board e
-            by_last false e = number_stops IsText t _ _ m at_third at-m (λ _ _. some_counted) e
+            let first = bytes_more t 0 start f.end _ _ at.past at_f.past at.bytes at_f.bytes.is in
+            let second = bytes_more t 0 f.end c.end _ _ (omega arith) at_c.past first at_c.bytes.is in
+            let third = bytes_more t 0 c.end m.end _ _ (omega arith) at-m.past second at-m.bytes.is in
+            record {
+              past = omega arith;
+              within = at-m.within;
+              bytes = record {
+                f_small = at_f.bytes.small;
+                c_small = at_c.bytes.small;
+                m_small = at-m.bytes.small;
+                is = third ∙ append_assoc (board_line ++ F) C _ ∙ append_assoc board_line F _;
+              };
+            }
 
 -- ---- the walk over the count
 
-module _ (t : List ℕ) (a : ℕ) (at : WordAt nets_word t a) where
-  pub count_breaks : a < 5 → CountAt t (record { value = 0; long = a; whole = false })
-  count_breaks h =
-      record {
-        within = at.within.1;
-        small = omega arith;
-        by = stops_as IsCounted Count t a false count_forth count_back (word_breaks nets_word (Num newline IsNets) t a at h (some_number IsNets (some_nets 0)));
-      }
+module _ (t : List ℕ) (a : ℕ) (within : a ≤ length t) where
+  at_count : Goes IsCounted t a a Count
+  at_count = goes_as Count Count t a a (goes_start Count t a within) IsCounted count_forth count_back
 
-  pub count_read : 5 ≤ a → (n : NumberRead) → NumberAt newline (drop a t) n → CountAt t (record { value = n.value; long = a + n.long; whole = n.whole })
-  unfolding count_text
-  count_read h n at_n = record { within = past_within IsCounted t a _ n here at_n; small = at_n.small; by = by_last n.whole refl }
-    where
-      here : From IsCounted t a (Num newline IsNets)
-      here = from_as IsCounted Count (Num newline IsNets) t a count_forth count_back (word_from nets_word (Num newline IsNets) t a at h)
+  pub count_breaks : (b : Broken) → WordAt nets_word t a (Err b) → CountAt t a (Err b)
+  count_breaks = word_stops IsCounted t a a nets_word (Num newline IsNets) at_count (some_number IsNets (some_nets 0))
 
-      by_last : (w : Bool) → n.whole ≡ w → CountBy w t n.value (a + n.long)
-      by_last true e = number_behind IsCounted t a _ n here at_n _ (word_whole nets_word (Num newline IsNets) t a at h) e
-      by_last false e = number_stops IsCounted t a IsNets n here at_n (λ v _. some_nets v) e
+  module _ (start : ℕ) (at : WordAt nets_word t a (Ok start)) where
+    pub count_read : (r : Result (Read ℕ) Broken) → NumberAt newline t start r → CountAt t a r
+    unfolding count_text
+    count_read (Ok n) at_n =
+        record {
+          past = omega (arith, at.past, at_n.past);
+          within = at_n.within;
+          bytes = record { small = at_n.bytes.small; is = bytes_more t a start n.end _ _ at.past at_n.past at.bytes at_n.bytes.is };
+        }
+    count_read (Err b) at_n = number_stops IsCounted t a start IsNets (word_goes IsCounted t a a nets_word (Num newline IsNets) at_count start at) (λ v _. some_nets v) b at_n
 
--- one letter more of a word
-pub letter_more : (word t : List ℕ) (i : ℕ) → i < length word → i < length t → take i t ≡ take i word → get_or t i 0 ≡ get_or word i 0 → take (i + 1) t ≡ take (i + 1) word
-letter_more word t i h l same e = rw add-one (take-suc t i 0 l ∙ rw (same, e) (sym (take-suc word i 0 h)))
+-- ---- the walk over a word
 
--- a number read from byte a on, as the walk hands over the rest of the text
-pub line : (t : List ℕ) (a : ℕ) {r : NumberRead} → NumberAt newline (take (length t - a) (drop a t)) r → NumberAt newline (drop a t) r
-line t a at = rw (lent_to_end t a) at at
+-- its first i letters stand from byte a to byte e
+pub record Letters (word t : List ℕ) (a i e : ℕ) : Type 0 where
+  pub place : e ≡ a + i
+  pub within : e ≤ length t
+  pub same : take i (drop a t) ≡ take i word

@@ -9,3 +9,4 @@ pub mod Whole
 pub mod ByNumber
 pub mod Most
 pub mod Once
+pub mod Alone

@@ -1,20 +1,20 @@
 -- The lines of the nets: one more, stopped in one, and none left.
 -- Assumes nothing.
 use mathlib.Core.Path.{◌≡◌, refl, sym, ap, subst, ◌∙◌}
-use mathlib.Core.Bool.{Bool, true, false}
+use mathlib.Core.Bool.{true, false}
 use mathlib.Core.List.{List, [], ◌∷◌, ◌++◌, append_assoc}
 use Prim.Native.Nat.{ℕ, zero, suc, ◌+◌, ◌-◌, ◌≤◌, ◌<◌}
 use native.Mathlib.Omega.{arith}
 use lib.ListN.{length, get_or, take, drop, length-drop, take-append-drop}
 use lib.Seq.{take-add}
-use Rattle.laws.proofs.Cases.{by_test}
-use Rattle.form.specs.declared.NumberRead.{NumberRead}
-use Rattle.form.specs.declared.NetRead.{NetRead}
+use Rattle.std.specs.Prelude.{Ok, Err}
+use Rattle.form.specs.declared.Read.{Read}
+use Rattle.form.specs.declared.Broken.{Broken}
 use Rattle.text.specs.Forms.{decimal}
 use Rattle.form.specs.Form.{space, newline, number_then, net_line, nets_text, EndsOf, IsNets}
 use Rattle.form.specs.Breaks.{Begins}
-use Rattle.form.specs.Walk.{Stops, NumberBreaks, NumberBy, NumberAt, NetBy, NetAt}
-use Rattle.form.proofs.Stopping.{From, from_start, from_then, from_stops, stops_as, ended, broken_none}
+use Rattle.form.specs.Walk.{Stops, NumberBreaks, NumberAt, NetAt, NetsAt}
+use Rattle.form.proofs.Stopping.{From, from_stops, stops_as, ended, broken_none, drop_on, Goes, goes_then, goes_stuck}
 use Rattle.form.proofs.Digits.{number_once}
 use Rattle.form.proofs.Numbers.{Num, number_then_append, number_from, number_breaks}
 
@@ -136,44 +136,45 @@ pub line_whole : (t : List ℕ) (v w k j : ℕ) → take k t ≡ number_then v s
 unfolding net_line
 line_whole t v w k j p q = take-add k j t ∙ rw (p, q)
 
-module _ (t : List ℕ) (r : NumberRead) (at : NumberAt space t r) where
-  pub broken_first : r.whole ≡ false → NetAt t (record { first = r.value; second = 0; long = r.long; whole = false })
-  broken_first e =
+module _ (t : List ℕ) (a : ℕ) where
+  pub broken_first : (b : Broken) → NumberAt space t a (Err b) → NetAt t a (Err b)
+  broken_first b at =
       record {
+        past = at.past;
         within = at.within;
-        first_small = at.small;
-        second_small = omega arith;
-        by = λ n. first_breaks n t r.value r.long at.small at.within (rw e at at.by);
+        breaks = λ n. first_breaks n (drop a t) at.breaks.v (b.0 - a) at.breaks.small (omega (arith, at.within, length-drop a t)) at.breaks.breaks;
       }
 
-  pub both_numbers : r.whole ≡ true → (q : NumberRead) → NumberAt newline (drop r.long t) q
-      → NetAt t (record { first = r.value; second = q.value; long = r.long + q.long; whole = q.whole })
-  both_numbers e q next =
-      record {
-        within = omega (arith, at.within, next.within, length-drop r.long t);
-        first_small = at.small;
-        second_small = next.small;
-        by = by_second q.whole next.by;
-      }
-    where
-      by_second : (w : Bool) → NumberBy w newline (drop r.long t) q.value q.long → NetBy w t r.value q.value (r.long + q.long)
-      by_second true whole = line_whole t r.value q.value r.long q.long (rw e at at.by) whole
-      by_second false broken = λ n. second_breaks n t r.value r.long q.value q.long at.small at.within (rw e at at.by) next.small next.within broken
+  module _ (r : Read ℕ) (at : NumberAt space t a (Ok r)) where
+    inside : r.end - a ≤ length (drop a t)
+    inside = omega (arith, at.within, length-drop a t)
 
--- ---- the walk over all lines, with so many left
+    pub broken_second : (b : Broken) → NumberAt newline t r.end (Err b) → NetAt t a (Err b)
+    broken_second b next =
+        let z : r.end - a + (b.0 - r.end) ≡ b.0 - a = omega (arith, at.past, next.past) in
+        record {
+          past = omega (arith, at.past, next.past);
+          within = next.within;
+          breaks = λ n. rw z at (second_breaks n (drop a t) r.value (r.end - a) next.breaks.v (b.0 - r.end) at.bytes.small inside at.bytes.is next.breaks.small
+              (rw (drop_on t a r.end at.past) (omega (arith, next.within, length-drop r.end t))) (rw (drop_on t a r.end at.past) next.breaks.breaks));
+        }
+
+    pub both_numbers : (q : Read ℕ) → NumberAt newline t r.end (Ok q) → NetAt t a (Ok (record { value = (r.value, q.value); end = q.end }))
+    both_numbers q next =
+        let z : r.end - a + (q.end - r.end) ≡ q.end - a = omega (arith, at.past, next.past) in
+        record {
+          past = omega (arith, at.past, next.past);
+          within = next.within;
+          bytes = record {
+            first_small = at.bytes.small;
+            second_small = next.bytes.small;
+            is = rw z at (line_whole (drop a t) r.value q.value (r.end - a) (q.end - r.end) at.bytes.is (rw (drop_on t a r.end at.past) next.bytes.is));
+          };
+        }
+
+-- ---- the walk over all lines, with so many left at byte e
 
 module _ (n : ℕ) (t : List ℕ) (a : ℕ) where
-  pub stops_here : (left : ℕ) (r : NetRead) → 0 < left → From (IsNets n) t a (IsNets left) → NetAt (drop a t) r → r.whole ≡ false → Stops (IsNets n) t (a + r.long) false
-  stops_here zero r l p q e = absurd (omega arith)
-  stops_here (suc left) r l p q e = from_stops (IsNets n) (IsNets (suc left)) t a r.long false p ((rw e at q.by) left)
-
-  pub goes_past : (left : ℕ) (r : NetRead) → 0 < left → From (IsNets n) t a (IsNets left) → NetAt (drop a t) r → r.whole ≡ true → From (IsNets n) t (a + r.long) (IsNets (left - 1))
-  goes_past zero r l p q e = absurd (omega arith)
-  goes_past (suc left) r l p q e =
-      let z : suc left - 1 ≡ left = omega arith in
-      rw z (from_then (IsNets n) (IsNets (suc left)) (IsNets left) t a r.long p
-      (nets_from_line left (drop a t) r.first r.second r.long q.first_small q.second_small q.within (rw e at q.by)))
-
   pub all_past : From (IsNets n) t a (IsNets 0) → Stops (IsNets n) t a true
   unfolding nets_text some_nets
   all_past p =
@@ -184,20 +185,34 @@ module _ (n : ℕ) (t : List ℕ) (a : ℕ) where
       none x s [] of e = absurd (omega (arith, ap length e))
       none x s (v ∷ ends) of e = absurd (omega (arith, of.long))
 
-pub none_past : (n : ℕ) (t : List ℕ) → From (IsNets n) t 0 (IsNets n)
-none_past n t = from_start (IsNets n) t
+module _ (n : ℕ) (t : List ℕ) (a e : ℕ) where
+  pub stops_here : (left : ℕ) (b : Broken) → 0 < left → Goes (IsNets n) t a e (IsNets left) → NetAt t e (Err b) → NetsAt n t a (Err b)
+  stops_here zero b l p q = absurd (omega arith)
+  stops_here (suc left) b l p q = goes_stuck (IsNets n) (IsNets (suc left)) t a e p b (record { past = q.past; within = q.within; breaks = q.breaks left })
+
+  pub goes_past : (left : ℕ) (r : Read (ℕ × ℕ)) → 0 < left → Goes (IsNets n) t a e (IsNets left) → NetAt t e (Ok r) → Goes (IsNets n) t a r.end (IsNets (left - 1))
+  goes_past zero r l p q = absurd (omega arith)
+  goes_past (suc left) r l p q =
+      let z : suc left - 1 ≡ left = omega arith in
+      rw z (goes_then (IsNets n) (IsNets (suc left)) t a e p (IsNets left) r.end (record {
+        past = q.past;
+        within = q.within;
+        from = nets_from_line left (drop e t) r.value.0 r.value.1 (r.end - e) q.bytes.first_small q.bytes.second_small (omega (arith, q.within, length-drop e t)) q.bytes.is;
+      }))
+
+  pub none_left : (left : ℕ) → left ≡ 0 → Goes (IsNets n) t a e (IsNets left) → NetsAt n t a (Ok e)
+  none_left left z p = record { past = p.past; within = p.within; stops = all_past n (drop a t) (e - a) (rw z at p.from) }
 
 -- ---- a line that is known
 
-pub line_known : (n v w : ℕ) (t ends : List ℕ) (r : NetRead) → v < 65536 → w < 65536 → EndsOf n ends → t ≡ net_line v w ++ nets_text ends → NetAt t r
-    → (r.first ≡ v) × (r.second ≡ w) × (drop r.long t ≡ nets_text ends)
-unfolding nets_text
-line_known n v w t ends r vs ws of e q = by_test r.whole whole broken
-  where
-    whole : r.whole ≡ true → (r.first ≡ v) × (r.second ≡ w) × (drop r.long t ≡ nets_text ends)
-    whole h =
-        line_once r.first r.second v w (drop r.long t) (nets_text ends)
-        (ap (λ (p : List ℕ). p ++ drop r.long t) (sym (rw h at q.by)) ∙ take-append-drop r.long t ∙ e)
+module _ (n v w : ℕ) (t ends : List ℕ) (a : ℕ) (vs : v < 65536) (ws : w < 65536) (of : EndsOf n ends) (e : drop a t ≡ net_line v w ++ nets_text ends) where
+  pub line_known : (r : Read (ℕ × ℕ)) → NetAt t a (Ok r) → (r.value.0 ≡ v) × (r.value.1 ≡ w) × (drop r.end t ≡ nets_text ends)
+  line_known r q =
+      let z = line_once r.value.0 r.value.1 v w (drop (r.end - a) (drop a t)) (nets_text ends)
+      (ap (λ (p : List ℕ). p ++ drop (r.end - a) (drop a t)) (sym q.bytes.is) ∙ take-append-drop (r.end - a) (drop a t) ∙ e) in
+      (z.0, z.1, sym (drop_on t a r.end q.past) ∙ z.2)
 
-    broken : r.whole ≡ false → (r.first ≡ v) × (r.second ≡ w) × (drop r.long t ≡ nets_text ends)
-    broken h = absurd (broken_none (IsNets (suc n)) t r.long ((rw h at q.by) n) (record { ends = v ∷ w ∷ ends; of = ends_of_next n v w ends vs ws of; is = e }))
+  -- its walk does not break
+  pub line_unbroken : (b : Broken) → NetAt t a (Err b) → ⊥
+  unfolding nets_text
+  line_unbroken b q = broken_none (IsNets (suc n)) (drop a t) (b.0 - a) (q.breaks n) (record { ends = v ∷ w ∷ ends; of = ends_of_next n v w ends vs ws of; is = e })

@@ -1,7 +1,7 @@
 -- A number of the form, the byte behind it, and what may follow.
 -- Assumes nothing.
 use mathlib.Core.Path.{◌≡◌, refl, sym, ap, subst, ◌∙◌}
-use mathlib.Core.Bool.{Bool, true, false, ◌&&◌, ◌||◌, false≢true, and-eq-true_iff, and-false}
+use mathlib.Core.Bool.{Bool, true, false, ◌&&◌, ◌||◌, false≢true, and-eq-true_iff}
 use mathlib.Core.Logic.{◌⊎◌, inr, ⊎_elim, dite}
 use mathlib.Core.List.{List, [], ◌∷◌, ◌++◌, append-nil}
 use Prim.Native.Nat.{ℕ, ◌+◌, ◌-◌, ◌*◌, ◌/◌, ◌%◌, ◌≤◌, ◌<◌}
@@ -9,16 +9,17 @@ use native.Mathlib.Decide.{dec_lt}
 use native.Mathlib.Numerals.{add-one}
 use native.Mathlib.Omega.{arith}
 use lib.Dec.{leb, eqb}
-use lib.ListN.{length, get_or, take, length-append}
-use lib.Seq.{append_snoc, length-take-le, take-suc}
-use borrow.Author.Tests.{le-leb, lt-leb, leb-false, ne_eqb}
+use lib.ListN.{length, get_or, take, drop, length-append, length-drop}
+use lib.Seq.{append_snoc, length-take-le, take-suc, get_or-drop}
+use borrow.Author.Tests.{le-leb, leb-false, eq-eqb, ne_eqb}
 use Rattle.laws.proofs.Cases.{by_test, by_same}
 use Rattle.laws.proofs.Test.{and_says, or_says, leb_says}
+use Rattle.std.specs.Prelude.{Ok}
 use Rattle.text.specs.Forms.{decimal}
 use Rattle.text.proofs.Decimals.{decimal_small, decimal_more}
 use Rattle.form.specs.Form.{number_then}
 use Rattle.form.specs.Breaks.{Begins}
-use Rattle.form.specs.Walk.{Stops, is_digit, digit_fits, Came, NumberBreaks}
+use Rattle.form.specs.Walk.{Stops, is_digit, digit_fits, Came, NumberBreaks, NumberAt}
 use Rattle.form.proofs.Digits.{first_digit, zero_first, number_once, number_ends, number_other, number_more}
 use Rattle.form.proofs.Stopping.{From, stuck}
 
@@ -37,17 +38,9 @@ number_then_append v b s = append_snoc (decimal v) b s
 -- ---- whether a byte can be the next digit
 
 module _ (first : Bool) (v x : ℕ) where
-  pub fits_none : is_digit x ≡ false → digit_fits first v x ≡ false
-  unfolding digit_fits
-  fits_none h = rw h
-
   pub fits_any : is_digit x ≡ true → first ≡ true → digit_fits first v x ≡ true
   unfolding digit_fits
   fits_any h e = rw (h, e)
-
-  pub fits_zero : first ≡ false → v < 1 → digit_fits first v x ≡ false
-  unfolding digit_fits
-  fits_zero e z = rw (e, lt-leb 1 v z, and-false (is_digit x))
 
   pub fits_more : is_digit x ≡ true → first ≡ false → 1 ≤ v → digit_fits first v x ≡ leb (10 * v + (x - 48)) 65535
   unfolding digit_fits
@@ -174,14 +167,34 @@ module _ (b : ℕ) (other : is_digit b ≡ false) (M : ℕ → List ℕ → Type
         at_start : k ≡ 0 → v ≡ 0 → NumberBreaks b t v k → Stops (Num b M) t k false
         at_start e z n = rw e (no_digit_yet (rw (e, z) at n.no_digit))
 
--- ---- what the walk over a number has found
+-- ---- the walk over a number that begins at byte a: its digits so far are those of v, and byte i comes next
 
-module _ (after : ℕ) (t : List ℕ) (v k : ℕ) (came : Came t v k) where
-  -- its digits, and the byte behind them
-  pub whole_number : k < length t → 0 < k → get_or t k 0 ≡ after → take (k + 1) t ≡ number_then v after
-  unfolding number_then
-  whole_number inside positive e =
-      ⊎_elim (λ none. absurd (omega (arith, none.0)))
-      (λ digits. let more : take (k + 1) t ≡ take k t ++ (get_or t k 0 ∷ []) = rw add-one (take-suc t k 0 inside) in
-      more ∙ ap (λ (p : List ℕ). p ++ (get_or t k 0 ∷ [])) digits ∙ ap (λ (x : ℕ). decimal v ++ (x ∷ [])) e)
-      came
+module _ (t : List ℕ) (a i v : ℕ) (start : a ≤ i) (small : v < 65536) (came : Came (drop a t) v (i - a)) where
+  module _ (inside : i < length t) where
+    there : i - a < length (drop a t)
+    there = omega (arith, length-drop a t)
+
+    here : get_or (drop a t) (i - a) 0 ≡ get_or t i 0
+    here = let z : a + (i - a) ≡ i = omega arith in get_or-drop a t (i - a) 0 ∙ ap (λ (k : ℕ). get_or t k 0) z
+
+    first : eqb (i - a) 0 ≡ eqb i a
+    first = by_same i a (λ e. eq-eqb (i - a) 0 (omega arith) ∙ sym (eq-eqb i a e)) (λ n. ne_eqb (i - a) 0 (λ e. n (omega arith)) ∙ sym (ne_eqb i a n))
+
+    next : i - a + 1 ≡ i + 1 - a
+    next = omega arith
+
+    -- one digit more
+    pub digit_here : digit_fits (eqb i a) v (get_or t i 0) ≡ true
+        → (48 ≤ get_or t i 0) × (10 * v + (get_or t i 0 - 48) < 65536) × Came (drop a t) (10 * v + (get_or t i 0 - 48)) (i + 1 - a)
+    digit_here fits = rw (here, next) at (digit_next (drop a t) v (i - a) there came (rw (first, here) fits))
+
+    -- the byte behind it
+    pub whole_number : (after : ℕ) → a < i → get_or t i 0 ≡ after → NumberAt after t a (Ok (record { value = v; end = i + 1 }))
+    unfolding number_then
+    whole_number after positive e =
+        record { past = omega arith; within = omega arith; bytes = record { small = small; is = ap (λ (k : ℕ). take k (drop a t)) (sym next) ∙ by_digits came } }
+      where
+        by_digits : Came (drop a t) v (i - a) → take (i - a + 1) (drop a t) ≡ decimal v ++ (after ∷ [])
+        by_digits =
+            ⊎_elim (λ none. absurd (omega (arith, none.0)))
+            (λ digits. rw add-one (take-suc (drop a t) (i - a) 0 there) ∙ ap (λ (p : List ℕ). p ++ (get_or (drop a t) (i - a) 0 ∷ [])) digits ∙ ap (λ (x : ℕ). decimal v ++ (x ∷ [])) (here ∙ e))

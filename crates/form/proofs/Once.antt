@@ -8,8 +8,8 @@ use native.Mathlib.Decide.{dec_lt}
 use native.Mathlib.Omega.{arith}
 use lib.ListN.{length, take, length-append}
 use lib.Seq.{take-length, take-take, length-take-le}
-use Rattle.words.specs.declared.Verdict.{Verdict}
-use Rattle.words.specs.Verdict.{refuse}
+use Rattle.words.specs.Verdict.{Verdict, refuse}
+use Rattle.words.specs.declared.Reason.TheVariants as reason
 use Rattle.form.specs.Form.{text_of, InForm, IsText}
 use Rattle.form.specs.Breaks.{Begins, Longest, place_behind, BreaksAs}
 use Rattle.form.proofs.NetLines.{ends_once}
@@ -50,10 +50,10 @@ module _ (t : List ℕ) where
   text_unbroken v whole (BreaksAs.follows k longest is l e) = absurd (omega (arith, longest_all IsText t k whole longest))
 
   pub breaks_once : (v w : Verdict) → BreaksAs t v → BreaksAs t w → v ≡ w
-  breaks_once v w (BreaksAs.breaks j p none e) (BreaksAs.breaks k q none' e') = e ∙ ap (λ (i : ℕ). refuse 31 (place_behind (take i t))) (longest_once IsText t j k p q) ∙ sym e'
+  breaks_once v w (BreaksAs.breaks j p none e) (BreaksAs.breaks k q none' e') = e ∙ ap (λ (i : ℕ). refuse reason.TextBreaks (place_behind (take i t))) (longest_once IsText t j k p q) ∙ sym e'
   breaks_once v w (BreaksAs.breaks j p none e) (BreaksAs.follows k q is l e') = absurd (none (subst (λ (i : ℕ). IsText (take i t)) (longest_once IsText t k j q p) is))
   breaks_once v w (BreaksAs.follows j p is l e) (BreaksAs.breaks k q none e') = absurd (none (subst (λ (i : ℕ). IsText (take i t)) (longest_once IsText t j k p q) is))
-  breaks_once v w (BreaksAs.follows j p is l e) (BreaksAs.follows k q is' l' e') = e ∙ ap (λ (i : ℕ). refuse 32 (place_behind (take i t))) (longest_once IsText t j k p q) ∙ sym e'
+  breaks_once v w (BreaksAs.follows j p is l e) (BreaksAs.follows k q is' l' e') = e ∙ ap (λ (i : ℕ). refuse reason.TextGoesOn (place_behind (take i t))) (longest_once IsText t j k p q) ∙ sym e'
 
 -- ---- a text that is too long for the form breaks where its first 786,458 bytes break
 
@@ -77,8 +77,8 @@ module _ (t : List ℕ) (long : 786457 < length t) where
   pub cut_breaks : (v : Verdict) → BreaksAs t v → BreaksAs (take 786458 t) v
   cut_breaks v (BreaksAs.breaks k p none e) =
       let same = cut k (omega (arith, begins_most k t p.within p.begins)) in
-      BreaksAs.breaks k (cut_longest k p) (λ is. none (subst IsText same is)) (e ∙ ap (λ (s : List ℕ). refuse 31 (place_behind s)) (sym same))
+      BreaksAs.breaks k (cut_longest k p) (λ is. none (subst IsText same is)) (e ∙ ap (λ (s : List ℕ). refuse reason.TextBreaks (place_behind s)) (sym same))
   cut_breaks v (BreaksAs.follows k p is l e) =
       let most = begins_most k t p.within p.begins in
       let same = cut k (omega (arith, most)) in
-      BreaksAs.follows k (cut_longest k p) (subst IsText (sym same) is) (omega (arith, most, length-take-le 786458 t (omega arith))) (e ∙ ap (λ (s : List ℕ). refuse 32 (place_behind s)) (sym same))
+      BreaksAs.follows k (cut_longest k p) (subst IsText (sym same) is) (omega (arith, most, length-take-le 786458 t (omega arith))) (e ∙ ap (λ (s : List ℕ). refuse reason.TextGoesOn (place_behind s)) (sym same))

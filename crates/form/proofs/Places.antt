@@ -1,6 +1,6 @@
 -- Lines and bytes, counted on byte by byte.
 -- Assumes nothing.
-use mathlib.Core.Path.{◌≡◌, refl, sym, ap, ◌∙◌}
+use mathlib.Core.Path.{◌≡◌, sym, ap, ◌∙◌}
 use mathlib.Core.Bool.{false}
 use mathlib.Core.List.{List, [], ◌∷◌}
 use Prim.Native.Nat.{ℕ, suc, ◌+◌, ◌≤◌, ◌<◌}
@@ -20,9 +20,6 @@ pub record Reached (s : List ℕ) (p q i : ℕ) : Type 0 where
   pub byte_low : q ≤ i
   pub line : line_from p (drop i s) ≡ line_from 1 s
   pub byte : byte_from q (drop i s) ≡ byte_from 0 s
-
-pub reached_none : (s : List ℕ) → Reached s 1 0 0
-reached_none s = record { line_low = omega arith; byte_low = omega arith; line = refl; byte = refl }
 
 line_same : (p b : ℕ) (s : List ℕ) → eqb b newline ≡ false → line_from p (b ∷ s) ≡ line_from p s
 unfolding line_from

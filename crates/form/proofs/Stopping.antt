@@ -8,9 +8,10 @@ use native.Mathlib.Decide.{dec_lt}
 use Prim.Native.Nat.{ℕ, suc, ◌+◌, ◌-◌, ◌≤◌, ◌<◌}
 use native.Mathlib.Omega.{arith}
 use lib.ListN.{length, get_or, take, drop, length-drop}
-use lib.Seq.{take-add, drop-cons, take-length}
+use lib.Seq.{take-add, drop-cons, drop-drop, take-length}
 use Rattle.form.specs.Breaks.{Begins}
-use Rattle.form.specs.Walk.{Ends, Stops}
+use Rattle.form.specs.declared.Broken.{Broken}
+use Rattle.form.specs.Walk.{Ends, Stops, Short, Stuck}
 
 -- a longer beginning, from byte a on
 pub take_on : (a j : ℕ) (t : List ℕ) → a ≤ j → take j t ≡ take a t ++ take (j - a) (drop a t)
@@ -103,3 +104,41 @@ stops_as L M t k w f g q =
           };
       ends = ends_as w _ _ (f _) (g _) q.ends;
     }
+
+-- ---- by places in the text: the piece that begins at byte a goes on at byte e
+
+pub drop_on : (t : List ℕ) (a e : ℕ) → a ≤ e → drop (e - a) (drop a t) ≡ drop e t
+drop_on t a e h = let z : a + (e - a) ≡ e = omega arith in drop-drop (e - a) a t ∙ ap (λ (k : ℕ). drop k t) z
+
+pub record Goes (L : List ℕ → Type 0) (t : List ℕ) (a e : ℕ) (M : List ℕ → Type 0) : Type 0 where
+  pub past : a ≤ e
+  pub within : e ≤ length t
+  pub from : From L (drop a t) (e - a) M
+
+pub goes_start : (L : List ℕ → Type 0) (t : List ℕ) (a : ℕ) → a ≤ length t → Goes L t a a L
+goes_start L t a h = let z : a - a ≡ 0 = omega arith in record { past = omega arith; within = h; from = rw z (from_start L (drop a t)) }
+
+module _ (L M : List ℕ → Type 0) (t : List ℕ) (a e : ℕ) (p : Goes L t a e M) where
+  pub goes_as : (K : List ℕ → Type 0) → ((s : List ℕ) → K s → L s) → ((s : List ℕ) → L s → K s) → Goes K t a e M
+  goes_as K f g = record { past = p.past; within = p.within; from = from_as K L M (drop a t) (e - a) f g p.from }
+
+  pub goes_then : (N : List ℕ → Type 0) (i : ℕ) → Goes M t e i N → Goes L t a i N
+  goes_then N i q =
+      let z : e - a + (i - e) ≡ i - a = omega (arith, p.past, q.past) in
+      record {
+        past = omega (arith, p.past, q.past);
+        within = q.within;
+        from = rw z at (from_then L M N (drop a t) (e - a) (i - e) p.from (rw (sym (drop_on t a e p.past)) at q.from));
+      }
+
+  -- where the rest stops, the piece stops
+  goes_to : (w : Bool) (i : ℕ) → e ≤ i → Stops M (drop e t) (i - e) w → Stops L (drop a t) (i - a) w
+  goes_to w i h q =
+      let z : e - a + (i - e) ≡ i - a = omega (arith, p.past) in
+      rw z at (from_stops L M (drop a t) (e - a) (i - e) w p.from (rw (sym (drop_on t a e p.past)) at q))
+
+  pub goes_stuck : (b : Broken) → Stuck (Short M) t e b → Stuck (Short L) t a b
+  goes_stuck b q = record { past = omega (arith, p.past, q.past); within = q.within; breaks = goes_to false b.0 q.past q.breaks }
+
+  pub goes_ends : (i : ℕ) → e ≤ i → Stops M (drop e t) (i - e) true → Stops L (drop a t) (i - a) true
+  goes_ends = goes_to true

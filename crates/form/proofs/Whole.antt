@@ -3,21 +3,23 @@
 use mathlib.Core.Path.{◌≡◌, refl, sym, ap, subst, ◌∙◌}
 use mathlib.Core.Bool.{Bool, true, false}
 use mathlib.Core.List.{List, ◌++◌, append_assoc}
-use Prim.Native.Nat.{ℕ, ◌+◌, ◌-◌, ◌≤◌, ◌<◌}
+use Prim.Native.Nat.{ℕ, ◌-◌, ◌≤◌, ◌<◌}
 use native.Mathlib.Omega.{arith}
 use lib.ListN.{length, take, drop, length-drop, take-append-drop}
-use lib.Seq.{take-add, take_all}
-use Rattle.words.proofs.Bytes.{lent_to_end}
-use Rattle.form.specs.declared.NumberRead.{NumberRead}
-use Rattle.form.specs.declared.BoardRead.{BoardRead}
-use Rattle.form.specs.declared.NetsRead.{NetsRead}
+use lib.Seq.{take_all}
+use Rattle.std.specs.Prelude.{Ok, Err}
+use Rattle.words.specs.declared.Reason.TheVariants as reason
+use Rattle.form.specs.declared.Read.{Read}
+use Rattle.form.specs.declared.Broken.{Broken}
+use Rattle.form.specs.declared.Board.{Board}
 use Rattle.form.specs.declared.HeadRead.{HeadRead}
 use Rattle.form.specs.Form.{newline, board_line, nets_word, board_text, count_text, nets_text, text_of, InForm, IsText, IsNets}
 use Rattle.form.specs.Breaks.{BreaksAs}
-use Rattle.form.specs.Walk.{Stops, IsCounted, CountAt, BoardAt, WholeAt, broken_of, FormedBy}
-use Rattle.form.proofs.Stopping.{From, from_then, from_stops}
+use Rattle.form.specs.Walk.{Stops, IsCounted, CountAt, BoardAt, NetsAt, WalkAt, WholeAt}
+use Rattle.form.specs.Answer.{refused_at, FormedBy}
+use Rattle.form.proofs.Stopping.{From, Goes, goes_then, goes_stuck, goes_ends}
 use Rattle.form.proofs.Digits.{number_once}
-use Rattle.form.proofs.Heads.{strip, board_then, count_then}
+use Rattle.form.proofs.Heads.{strip, board_then, count_then, bytes_more}
 
 -- one board and one rest; one count and one rest
 pub board_once : (f c m f' c' m' : ℕ) (s u : List ℕ) → board_text f c m ++ s ≡ board_text f' c' m' ++ u → (f ≡ f') × (c ≡ c') × (m ≡ m') × (s ≡ u)
@@ -66,58 +68,65 @@ module _ (t : List ℕ) where
 
 -- ---- a walk that stops, and one that ends
 
--- the rest of a text, as the walk hands it over
-pub rest_counted : (t : List ℕ) (a : ℕ) {r : NumberRead} → CountAt (take (length t - a) (drop a t)) r → CountAt (drop a t) r
-rest_counted t a at = rw (lent_to_end t a) at at
-
-pub rest_stops : (t : List ℕ) (a n k : ℕ) {w : Bool} → Stops (IsNets n) (take (length t - a) (drop a t)) k w → Stops (IsNets n) (drop a t) k w
-rest_stops t a n k at = rw (lent_to_end t a) at at
+-- what stops from byte 0 on stops there
+from_front : (L : List ℕ → Type 0) (t : List ℕ) (k : ℕ) (w : Bool) → Stops L (drop 0 t) (k - 0) w → Stops L t k w
+from_front L t k w s = let z : k - 0 ≡ k = omega arith in rw z at s
 
 module _ (t : List ℕ) where
-  stops_short : (k : ℕ) → Stops IsText t k false → FormedBy (broken_of 31 t k) t
-  stops_short k s = BreaksAs.breaks k s.longest s.ends refl
+  pub in_board : (b : Broken) → BoardAt t (Err b) → WalkAt t (Err b)
+  in_board b at = from_front IsText t b.0 false at.breaks
 
-  stops_beyond : (k : ℕ) → Stops IsText t k true → k < length t → FormedBy (broken_of 32 t k) t
-  stops_beyond k s h = BreaksAs.follows k s.longest s.ends h refl
+  module _ (b : Read Board) (at_b : BoardAt t (Ok b)) where
+    at_count : Goes IsText t 0 b.end IsCounted
+    at_count =
+        record {
+          past = at_b.past;
+          within = at_b.within;
+          from = board_from (drop 0 t) b.value.f b.value.c b.value.m (b.end - 0) at_b.bytes.f_small at_b.bytes.c_small at_b.bytes.m_small (omega (arith, at_b.within)) at_b.bytes.is;
+        }
 
-  module _ (b : BoardRead) (at_b : BoardAt t b) where
-    pub in_board : b.whole ≡ false → FormedBy (broken_of 31 t b.long) t
-    in_board e = stops_short b.long (rw e at at_b.by)
+    pub in_count : (k : Broken) → CountAt t b.end (Err k) → WalkAt t (Err k)
+    in_count k at = from_front IsText t k.0 false (goes_stuck IsText IsCounted t 0 b.end at_count k at).breaks
 
-    module _ (whole-b : b.whole ≡ true) (n : NumberRead) (at_n : CountAt (drop b.long t) n) where
-      at_count : From IsText t b.long IsCounted
-      at_count = board_from t b.f b.c b.m b.long at_b.f_small at_b.c_small at_b.m_small at_b.within (rw whole-b at at_b.by)
+    module _ (n : Read ℕ) (at_n : CountAt t b.end (Ok n)) where
+      at_nets : Goes IsText t 0 n.end (IsNets n.value)
+      at_nets =
+          goes_then IsText IsCounted t 0 b.end at_count (IsNets n.value) n.end
+          (record {
+            past = at_n.past;
+            within = at_n.within;
+            from = count_from (drop b.end t) n.value (n.end - b.end) at_n.bytes.small (omega (arith, at_n.within, length-drop b.end t)) at_n.bytes.is;
+          })
 
-      pub in_count : n.whole ≡ false → FormedBy (broken_of 31 t (b.long + n.long)) t
-      in_count e = stops_short _ (from_stops IsText IsCounted t b.long n.long false at_count (rw e at at_n.by))
+      pub in_nets : (k : Broken) → NetsAt n.value t n.end (Err k) → WalkAt t (Err k)
+      in_nets k at = from_front IsText t k.0 false (goes_stuck IsText (IsNets n.value) t 0 n.end at_nets k at).breaks
 
-      module _ (whole-n : n.whole ≡ true) (r : NetsRead) (stops : Stops (IsNets n.value) (drop (b.long + n.long) t) r.long r.whole) where
-        at_nets : From IsText t (b.long + n.long) (IsNets n.value)
-        at_nets =
-            from_then IsText IsCounted (IsNets n.value) t b.long n.long at_count
-            (count_from (drop b.long t) n.value n.long at_n.small at_n.within (rw whole-n at at_n.by))
+      pub past_nets : (end : ℕ) → NetsAt n.value t n.end (Ok end)
+          → WalkAt t (Ok (record { value = record { f = b.value.f; c = b.value.c; m = b.value.m; n = n.value; start = n.end }; end = end }))
+      past_nets end at =
+          record {
+            stops = from_front IsText t end true (goes_ends IsText (IsNets n.value) t 0 n.end at_nets end at.past at.stops);
+            whole = λ none. record {
+              f_small = at_b.bytes.f_small;
+              c_small = at_b.bytes.c_small;
+              m_small = at_b.bytes.m_small;
+              n_small = at_n.bytes.small;
+              within = at_n.within;
+              head = front (bytes_more t 0 b.end n.end _ _ at_b.past at_n.past at_b.bytes.is at_n.bytes.is);
+              nets = subst (IsNets n.value) (take_all (end - n.end) (drop n.end t) (omega (arith, none, length-drop n.end t))) at.stops.ends;
+            };
+          }
+        where
+          front : {s : List ℕ} → take (n.end - 0) (drop 0 t) ≡ s → take n.end t ≡ s
+          front e = let z : n.end - 0 ≡ n.end = omega arith in rw z at e
 
-        all_stops : (w : Bool) → r.whole ≡ w → Stops IsText t (b.long + n.long + r.long) w
-        all_stops w e = from_stops IsText (IsNets n.value) t _ r.long w at_nets (rw e at stops)
+  -- ---- the answer
 
-        pub in_nets : r.whole ≡ false → FormedBy (broken_of 31 t (b.long + n.long + r.long)) t
-        in_nets e = stops_short _ (all_stops false e)
+  pub stops_short : (b : Broken) → WalkAt t (Err b) → FormedBy (Err (refused_at reason.TextBreaks t b.0)) t
+  stops_short b s = BreaksAs.breaks b.0 s.longest s.ends refl
 
-        pub behind_nets : r.whole ≡ true → b.long + n.long + r.long < length t → FormedBy (broken_of 32 t (b.long + n.long + r.long)) t
-        behind_nets e h = stops_beyond _ (all_stops true e) h
-
-        pub whole_text : r.whole ≡ true → length t ≤ b.long + n.long + r.long
-            → WholeAt t (record { f = b.f; c = b.c; m = b.m; n = n.value; start = b.long + n.long })
-        whole_text e h =
-            record {
-              f_small = at_b.f_small;
-              c_small = at_b.c_small;
-              m_small = at_b.m_small;
-              n_small = at_n.small;
-              within = at_nets.within;
-              head = take-add b.long n.long t ∙ rw (rw whole-b at at_b.by, rw whole-n at at_n.by);
-              nets = subst (IsNets n.value) (take_all r.long (drop (b.long + n.long) t) (omega (arith, length-drop (b.long + n.long) t))) (rw e at stops).ends;
-            }
+  pub stops_beyond : (r : Read HeadRead) → WalkAt t (Ok r) → r.end < length t → FormedBy (Err (refused_at reason.TextGoesOn t r.end)) t
+  stops_beyond r w h = BreaksAs.follows r.end w.stops.longest w.stops.ends h refl
 
 -- ---- what the walk of a whole text has read
 

@@ -1,8 +1,8 @@
 -- Where the form breaks: at the end of the longest beginning of a text of the form, told as a line and a byte in it.
 use Rattle.std.specs.Prelude.{◌≡◌, cond, List, [], ◌∷◌, ◌++◌, ℕ, ◌+◌, ◌≤◌, ◌<◌, eqb, length, take}
 use Rattle.words.specs.declared.Place.{Place}
-use Rattle.words.specs.declared.Verdict.{Verdict}
-use Rattle.words.specs.Verdict.{refuse, at_line}
+use Rattle.words.specs.declared.Reason.TheVariants as reason
+use Rattle.words.specs.Verdict.{Verdict, refuse, at_line}
 use Rattle.form.specs.Form.{newline, IsText}
 
 -- ---- beginnings, of any texts L
@@ -37,5 +37,5 @@ place_behind s = at_line (line_from 1 s) (byte_from 0 s)
 
 -- 31: the longest beginning of t is no whole text; 32: it is one, and more follows
 pub data BreaksAs (t : List ℕ) (v : Verdict) : Type 0 where
-  breaks : (k : ℕ) → Longest IsText t k → (IsText (take k t) → ⊥) → v ≡ refuse 31 (place_behind (take k t)) → BreaksAs t v
-  follows : (k : ℕ) → Longest IsText t k → IsText (take k t) → k < length t → v ≡ refuse 32 (place_behind (take k t)) → BreaksAs t v
+  breaks : (k : ℕ) → Longest IsText t k → (IsText (take k t) → ⊥) → v ≡ refuse reason.TextBreaks (place_behind (take k t)) → BreaksAs t v
+  follows : (k : ℕ) → Longest IsText t k → IsText (take k t) → k < length t → v ≡ refuse reason.TextGoesOn (place_behind (take k t)) → BreaksAs t v

@@ -2,3 +2,4 @@
 pub mod Form
 pub mod Breaks
 pub mod Walk
+pub mod Answer

@@ -1,85 +1,46 @@
 // What stands before the nets: `board 3`, three numbers, `nets` and their count.
-ghost use Rattle.std.specs.Prelude.{◌≡◌};
-ghost use Rattle.form.specs.Walk.{WordAt, CountAt, BoardAt, breaks_at};
+ghost use Rattle.std.specs.Prelude.{◌≤◌, length};
+ghost use Rattle.form.specs.Walk.{WordAt, CountAt, BoardAt};
 
 use crate::number::number;
-use crate::{BoardRead, NumberRead};
+use crate::{Board, Broken, Read};
 
-// The letters of `board 3` with the end of its line, and of `nets` with its space.
-const BOARD: usize = 8;
-
-const NETS: usize = 5;
-
-// How far the text goes on with the word.
-fn word(rest: &[u8], letters: &[u8]) -> usize
-    ensures { WordAt letters.now rest.now result }
+// The word that stands at byte `at`: the byte behind it.
+fn word(text: &[u8], at: usize, letters: &[u8]) -> Result<usize, Broken>
+    requires { at ≤ length text.now }
+    ensures { WordAt letters.now text.now at result }
 {
-    let mut i: usize = 0;
-    while i < letters.len() {
-        if rest.len() <= i || rest[i] != letters[i] {
-            return i;
+    for (i, letter) in letters.iter().enumerate() {
+        if text.len() <= at + i || text[at + i] != *letter {
+            return Err(Broken(at + i));
         }
-        i += 1;
     }
-    i
-}
-
-fn broken(at: usize) -> BoardRead
-    ensures { result ≡ breaks_at at }
-{
-    BoardRead {
-        f: 0,
-        c: 0,
-        m: 0,
-        long: at,
-        whole: false,
-    }
+    Ok(at + letters.len())
 }
 
 // The first line, and the three with f, c and m.
-pub fn board(text: &[u8]) -> BoardRead
+pub fn board(text: &[u8]) -> Result<Read<Board>, Broken>
     ensures { BoardAt text.now result }
 {
-    let at_f = word(text, b"board 3\n");
-    if at_f < BOARD {
-        return broken(at_f);
-    }
-    let f = number(&text[at_f..], b'\n');
-    let at_c = at_f + f.long;
-    if !f.whole {
-        return broken(at_c);
-    }
-    let c = number(&text[at_c..], b'\n');
-    let at_m = at_c + c.long;
-    if !c.whole {
-        return broken(at_m);
-    }
-    let m = number(&text[at_m..], b'\n');
-    BoardRead {
-        f: f.value,
-        c: c.value,
-        m: m.value,
-        long: at_m + m.long,
-        whole: m.whole,
-    }
+    let start = word(text, 0, b"board 3\n")?;
+    let f = number(text, start, b'\n')?;
+    let c = number(text, f.end, b'\n')?;
+    let m = number(text, c.end, b'\n')?;
+    Ok(Read {
+        value: Board {
+            f: f.value,
+            c: c.value,
+            m: m.value,
+        },
+        end: m.end,
+    })
 }
 
-// The line with the count of the nets.
-pub fn count(rest: &[u8]) -> NumberRead
-    ensures { CountAt rest.now result }
+// The line with the count of the nets, at byte `at`.
+pub fn count(text: &[u8], at: usize) -> Result<Read<u16>, Broken>
+    requires { at ≤ length text.now }
+    ensures { CountAt text.now at result }
 {
-    let at_n = word(rest, b"nets ");
-    if at_n < NETS {
-        return NumberRead {
-            value: 0,
-            long: at_n,
-            whole: false,
-        };
-    }
-    let n = number(&rest[at_n..], b'\n');
-    NumberRead {
-        value: n.value,
-        long: at_n + n.long,
-        whole: n.whole,
-    }
+    let start = word(text, at, b"nets ")?;
+    number(text, start, b'\n')
 }

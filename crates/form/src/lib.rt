@@ -1,59 +1,47 @@
 // The text of a job: its form is walked once, byte by byte, to its end or to where it breaks.
 #![tactic(auto)]
 
+ghost use Rattle.form.specs.Walk.{WholeAt};
+
 pub mod head;
 pub mod nets;
 pub mod number;
 pub mod place;
 pub mod walk;
 
-// A number that was read, and how many bytes it took with the byte behind it; where the form breaks, how many were in order.
-#[derive(Clone, Copy)]
-pub struct NumberRead {
-    pub value: usize,
-    pub long: usize,
-    pub whole: bool,
+// What was read, and the byte behind it.
+#[derive(Clone, Copy, Debug, PartialEq, Eq)]
+pub struct Read<T> {
+    pub value: T,
+    pub end: usize,
 }
 
-// A net's line: its two numbers, and its length in the same way.
-#[derive(Clone, Copy)]
-pub struct NetRead {
-    pub first: usize,
-    pub second: usize,
-    pub long: usize,
-    pub whole: bool,
-}
+// The form breaks at this byte: all before it are in order.
+#[derive(Clone, Copy, Debug, PartialEq, Eq)]
+pub struct Broken(pub usize);
 
-// The lines of the nets: their length in the same way.
-#[derive(Clone, Copy)]
-pub struct NetsRead {
-    pub long: usize,
-    pub whole: bool,
-}
-
-// The lines before the nets' count: the three numbers, and their length in the same way.
-#[derive(Clone, Copy)]
-pub struct BoardRead {
-    pub f: usize,
-    pub c: usize,
-    pub m: usize,
-    pub long: usize,
-    pub whole: bool,
+// The three numbers of a board.
+#[derive(Clone, Copy, Debug, PartialEq, Eq)]
+pub struct Board {
+    pub f: u16,
+    pub c: u16,
+    pub m: u16,
 }
 
 // What stands before the nets: four numbers, and the byte where the nets start.
-#[derive(Clone, Copy)]
+#[derive(Clone, Copy, Debug, PartialEq, Eq)]
 pub struct HeadRead {
-    pub f: usize,
-    pub c: usize,
-    pub m: usize,
-    pub n: usize,
+    pub f: u16,
+    pub c: u16,
+    pub m: u16,
+    pub n: u16,
     pub start: usize,
 }
 
-// A text of the form, or a refusal (31, 32).
+// A text of the form: the caller's own bytes, and what stands before its nets.
 #[derive(Clone, Copy)]
-pub enum Formed {
-    Whole(HeadRead),
-    Broken(words::Refusal),
+pub struct Formed<'a> {
+    pub text: &'a [u8],
+    pub head: HeadRead,
+    pub ghost whole: { ∥ WholeAt text.now head ∥₁ },
 }

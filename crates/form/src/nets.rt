@@ -1,46 +1,31 @@
 // The lines of the nets.
-ghost use Rattle.form.specs.Form.{IsNets};
-ghost use Rattle.form.specs.Walk.{NetAt, Stops};
+ghost use Rattle.std.specs.Prelude.{◌≤◌, length};
+ghost use Rattle.form.specs.Walk.{NetAt, NetsAt};
 
 use crate::number::number;
-use crate::{NetRead, NetsRead};
+use crate::{Broken, Read};
 
-// The line of one net: its first number and a space, its second and the end of the line.
-pub fn net(rest: &[u8]) -> NetRead
-    ensures { NetAt rest.now result }
+// The line of one net, at byte `at`: its first number and a space, its second and the end of the line.
+pub fn net(text: &[u8], at: usize) -> Result<Read<(u16, u16)>, Broken>
+    requires { at ≤ length text.now }
+    ensures { NetAt text.now at result }
 {
-    let first = number(rest, b' ');
-    if !first.whole {
-        return NetRead {
-            first: first.value,
-            second: 0,
-            long: first.long,
-            whole: false,
-        };
-    }
-    let behind = first.long;
-    let second = number(&rest[behind..], b'\n');
-    NetRead {
-        first: first.value,
-        second: second.value,
-        long: behind + second.long,
-        whole: second.whole,
-    }
+    let first = number(text, at, b' ')?;
+    let second = number(text, first.end, b'\n')?;
+    Ok(Read {
+        value: (first.value, second.value),
+        end: second.end,
+    })
 }
 
-// The lines of n nets.
-pub fn nets(rest: &[u8], n: usize) -> NetsRead
-    ensures { Stops (IsNets n) rest.now result.long result.whole }
+// The lines of n nets, from byte `at` on: the byte behind them.
+pub fn nets(text: &[u8], at: usize, n: usize) -> Result<usize, Broken>
+    requires { at ≤ length text.now }
+    ensures { NetsAt n text.now at result }
 {
-    let mut long: usize = 0;
-    let mut left = n;
-    while 0 < left {
-        let line = net(&rest[long..]);
-        long += line.long;
-        if !line.whole {
-            return NetsRead { long, whole: false };
-        }
-        left -= 1;
+    let mut end = at;
+    for _i in 0..n {
+        end = net(text, end)?.end;
     }
-    NetsRead { long, whole: true }
+    Ok(end)
 }

@@ -1,70 +1,35 @@
 // A number in decimal, up to 65,535 and with no zero in front but for 0 itself.
-ghost use Rattle.std.specs.Prelude.{◌≡◌, ◌-◌, ◌≤◌, ◌<◌};
-ghost use Rattle.form.specs.Walk.{is_digit, digit_fits, NumberAt};
+ghost use Rattle.std.specs.Prelude.{◌≡◌, ◌≤◌, length};
+ghost use Rattle.form.specs.Walk.{digit_fits, NumberAt};
 
-use crate::NumberRead;
+use crate::{Broken, Read};
 
 // The largest number.
 const MOST: usize = 65535;
 
-fn is_digit(b: u8) -> bool
-    ensures { result ≡ is_digit b }
-{
-    48 <= b && b <= 57
-}
-
-fn digit_value(b: u8) -> usize
-    requires { 48 ≤ b }
-    ensures { result ≡ b - 48 }
-{
-    b as usize - 48
-}
-
 // Byte b can be the first digit, or the next behind the digits of v: none behind a zero, and none that makes the number too large.
-fn digit_fits(first: bool, v: usize, b: u8) -> bool
-    requires { v < 65536 }
+#[tactic(auto, unfolding(crate::specs::Walk::digit_fits))]
+fn digit_fits(first: bool, v: u16, b: u8) -> bool
     ensures { result ≡ digit_fits first v b }
 {
-    if !is_digit(b) {
-        return false;
-    }
-    if first {
-        return true;
-    }
-    if v < 1 {
-        return false;
-    }
-    10 * v + digit_value(b) <= MOST
+    b.is_ascii_digit() && (first || (1 <= v && 10 * v as usize + (b - b'0') as usize <= MOST))
 }
 
-// The number at the front, and the byte `after` behind it.
-pub fn number(rest: &[u8], after: u8) -> NumberRead
-    ensures { NumberAt after rest.now result }
+// The number at byte `at`, and the byte `after` behind it.
+pub fn number(text: &[u8], at: usize, after: u8) -> Result<Read<u16>, Broken>
+    requires { at ≤ length text.now }
+    ensures { NumberAt after text.now at result }
 {
-    let mut value: usize = 0;
-    let mut i: usize = 0;
-    while i < rest.len() {
-        let b = rest[i];
-        if !digit_fits(i == 0, value, b) {
-            if 0 < i && b == after {
-                return NumberRead {
-                    value,
-                    long: i + 1,
-                    whole: true,
-                };
+    let mut value: u16 = 0;
+    for i in at..text.len() {
+        let b = text[i];
+        if !digit_fits(i == at, value, b) {
+            if at < i && b == after {
+                return Ok(Read { value, end: i + 1 });
             }
-            return NumberRead {
-                value,
-                long: i,
-                whole: false,
-            };
+            return Err(Broken(i));
         }
-        value = 10 * value + digit_value(b);
-        i += 1;
+        value = 10 * value + (b - b'0') as u16;
     }
-    NumberRead {
-        value,
-        long: i,
-        whole: false,
-    }
+    Err(Broken(text.len()))
 }

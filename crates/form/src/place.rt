@@ -9,8 +9,8 @@ pub fn place_behind(read: &[u8]) -> Place
 {
     let mut line: usize = 1;
     let mut byte: usize = 0;
-    for i in 0..read.len() {
-        if read[i] == b'\n' {
+    for b in read {
+        if *b == b'\n' {
             line += 1;
             byte = 0;
         } else {

@@ -1,50 +1,58 @@
 // The form of a text: walked once, to its end or to where it breaks.
-ghost use Rattle.std.specs.Prelude.{◌≡◌, ◌≤◌, length};
-ghost use Rattle.form.specs.Walk.{broken_of, FormedBy};
+ghost use Rattle.std.specs.Prelude.{◌≡◌, ◌≤◌, length, IfOk};
+ghost use Rattle.form.specs.Walk.{WalkAt};
+ghost use Rattle.form.specs.Answer.{refused_at, FormedBy};
 
 use crate::head::{board, count};
 use crate::nets::nets;
 use crate::place::place_behind;
-use crate::{Formed, HeadRead};
-use words::Refusal;
+use crate::{Broken, Formed, HeadRead, Read};
+use words::{Reason, Refusal};
 
-fn broken(number: u16, text: &[u8], stop: usize) -> Formed
-    requires { stop ≤ length text.now }
-    ensures { result ≡ broken_of number text.now stop }
+// The board, the count of the nets, their lines.
+fn walk(text: &[u8]) -> Result<Read<HeadRead>, Broken>
+    ensures { WalkAt text.now result }
 {
-    Formed::Broken(Refusal {
-        number,
-        place: place_behind(&text[..stop]),
+    let board = board(text)?;
+    let count = count(text, board.end)?;
+    let end = nets(text, count.end, count.value as usize)?;
+    Ok(Read {
+        value: HeadRead {
+            f: board.value.f,
+            c: board.value.c,
+            m: board.value.m,
+            n: count.value,
+            start: count.end,
+        },
+        end,
     })
 }
 
-// The board, the count of the nets, their lines: 31 where the form breaks, 32 where more follows.
-pub fn check_form(text: &[u8]) -> Formed
-    ensures { FormedBy result text.now }
+fn refused_at(reason: Reason, text: &[u8], stop: usize) -> Refusal
+    requires { stop ≤ length text.now }
+    ensures { result ≡ refused_at reason text.now stop }
 {
-    let board = board(text);
-    let at_count = board.long;
-    if !board.whole {
-        return broken(31, text, at_count);
+    Refusal {
+        reason,
+        place: place_behind(&text[..stop]),
     }
-    let count = count(&text[at_count..]);
-    let start = at_count + count.long;
-    if !count.whole {
-        return broken(31, text, start);
+}
+
+// The whole text: 31 where the form breaks, 32 where more follows.
+pub fn check_form<'a>(text: &'a [u8]) -> Result<Formed<'a>, Refusal>
+    ensures form { FormedBy result text.now }
+    ensures text { IfOk result (λ formed. formed.text ≡ text.entry) }
+{
+    match walk(text) {
+        Err(Broken(stop)) => Err(refused_at(Reason::TextBreaks, text, stop)),
+        Ok(read) => {
+            if read.end < text.len() {
+                return Err(refused_at(Reason::TextGoesOn, text, read.end));
+            }
+            Ok(Formed {
+                text,
+                head: read.value,
+            })
+        }
     }
-    let lines = nets(&text[start..], count.value);
-    let stop = start + lines.long;
-    if !lines.whole {
-        return broken(31, text, stop);
-    }
-    if stop < text.len() {
-        return broken(32, text, stop);
-    }
-    Formed::Whole(HeadRead {
-        f: board.f,
-        c: board.c,
-        m: board.m,
-        n: count.value,
-        start,
-    })
 }

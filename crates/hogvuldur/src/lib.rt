@@ -8,14 +8,12 @@ ghost use Rattle.finish.specs.Finish.{FinishCall};
 ghost use Rattle.finish.specs.Plan.{PlanCall};
 
 use finish::calls;
-use job::Checked;
 use job::well_formed::check_job;
 
 // The words.
-pub use words::{Crossbar, Fpga, Net, Place, Refusal, Verdict, Written, number_of};
+pub use words::{Crossbar, Fpga, Net, Place, Reason, Refusal, Verdict, number_of};
 
 // The job: its reader, its net section, its writer.
-pub use job::NetEnds;
 pub use job::read::net_section;
 pub use job_writer::write_job;
 pub use reader::{Numbers, Reader, net, net_of_job, numbers_held, numbers_of, open};
@@ -25,11 +23,12 @@ pub use text_reader::read_text;
 pub use text_writer::write_text;
 
 // The board.
-pub use spare::{Room, headroom, spare};
+pub use spare::{headroom, spare};
 
 // The assignment.
-pub use finish::Finish;
+pub use finish::{Finish, Rounds};
 pub use round::{Round, one_round};
+pub use search::Over;
 
 // The sheet.
 pub use audit::audit::audit;
@@ -40,14 +39,11 @@ pub use sheet_calls::{read_sheet, write_sheet};
 pub fn check(job: &[u8]) -> Verdict
     ensures { result ≡ job_verdict job.now }
 {
-    let checked = check_job(job);
-    match checked {
-        Checked::Passed(_) => Verdict::Done,
-        Checked::Refused(r) => Verdict::Refused(r),
-    }
+    check_job(job)?;
+    Ok(())
 }
 
-// Two pairs of calls have one type. Each says its promise here again, so that their names cannot be exchanged.
+// Two pairs of calls have one type. Each says its promise here again, so that their names cannot be exchanged (the wrong programs p_and_q and plan_and_finish).
 
 // The first of a refusal's two places.
 pub fn p_of(v: Verdict) -> usize

@@ -1,23 +1,21 @@
 -- The job check: done, or a refusal (1 to 10, 27), in the order of document 01, with 27 in document 02's place.
-use Rattle.std.specs.Prelude.{Bool, not, ◌||◌, List, ◌≡◌, ℕ, ◌≤◌, ◌<◌, ltb, leb, eqb, length}
-use Rattle.words.specs.declared.Verdict.{Verdict}
-use Rattle.words.specs.declared.Verdict.TheVariants as verdict
-use Rattle.words.specs.Verdict.{refuse_if, ◌then◌, first_refusal, at_byte, at_end, of_length}
+use Rattle.words.specs.declared.Reason.TheVariants as reason
+use Rattle.std.specs.Prelude.{Bool, not, ◌||◌, List, ◌≡◌, ℕ, ◌≤◌, ◌<◌, ltb, leb, eqb, length, Result}
+use Rattle.words.specs.Verdict.{Verdict, answer, refuse_if, ◌then◌, first_refusal, at_byte, at_end, of_length}
 use Rattle.words.specs.Number.{word}
+use Rattle.words.specs.declared.Refusal.{Refusal}
 use Rattle.job.specs.declared.Head.{Head}
-use Rattle.job.specs.declared.Checked.{Checked}
-use Rattle.job.specs.declared.Checked.TheVariants.{Passed, Refused}
 use Rattle.job.specs.Job.{f_at, c_at, m_at, n_at, head_long, nets_at, job_length, first_at, second_at, f_in, c_in, m_in, n_in, usable_width, head_in, first_in, second_in}
 
 -- ---- the stages
 
 -- too short for a head
 unfoldable pub short_verdict : List ℕ → Verdict
-short_verdict job = refuse_if (ltb (length job) head_long) 1 (of_length (length job))
+short_verdict job = refuse_if (ltb (length job) head_long) reason.JobShort (of_length (length job))
 
 -- the board's count
 unfoldable pub count_verdict : List ℕ → Verdict
-count_verdict job = refuse_if (not (eqb (word job 0) 3)) 2 (at_byte 0)
+count_verdict job = refuse_if (not (eqb (word job 0) 3)) reason.BoardCount (at_byte 0)
 
 -- x is below the smallest or above the largest
 unfoldable pub outside : ℕ → ℕ → ℕ → Bool
@@ -26,11 +24,11 @@ outside smallest largest x = ltb x smallest || ltb largest x
 -- the four numbers, each in its range
 unfoldable pub ranges_verdict : ℕ → ℕ → ℕ → ℕ → Verdict
 ranges_verdict f c m n =
-    refuse_if (outside 1 256 f) 3 (at_byte f_at) then
-    refuse_if (outside 1 128 c) 4 (at_byte c_at) then
-    refuse_if (outside 1 64 m) 5 (at_byte m_at) then
-    refuse_if (eqb m 1) 6 (at_byte m_at) then
-    refuse_if (ltb 4096 n) 7 (at_byte n_at)
+    refuse_if (outside 1 256 f) reason.FpgaCount (at_byte f_at) then
+    refuse_if (outside 1 128 c) reason.CrossbarCount (at_byte c_at) then
+    refuse_if (outside 1 64 m) reason.WireCount (at_byte m_at) then
+    refuse_if (eqb m 1) reason.LoneWire (at_byte m_at) then
+    refuse_if (ltb 4096 n) reason.NetCount (at_byte n_at)
 
 -- the head: 1 to 7
 unfoldable pub head_verdict : List ℕ → Verdict
@@ -39,15 +37,15 @@ head_verdict job = short_verdict job then count_verdict job then ranges_verdict 
 -- length against n: 1 and 8
 unfoldable pub length_verdict : List ℕ → Verdict
 length_verdict job =
-    refuse_if (ltb (length job) (job_length job)) 1 (of_length (length job)) then
-    refuse_if (ltb (job_length job) (length job)) 8 (at_byte (job_length job))
+    refuse_if (ltb (length job) (job_length job)) reason.JobShort (of_length (length job)) then
+    refuse_if (ltb (job_length job) (length job)) reason.JobLong (at_byte (job_length job))
 
 -- net i, between FPGAs v and w, where the nets start at byte `start`: the first number at or above f, then the second, then the same number twice
 unfoldable pub net_verdict : ℕ → ℕ → ℕ → ℕ → ℕ → Verdict
 net_verdict f start i v w =
-    refuse_if (leb f v) 9 (at_end i (first_at start i)) then
-    refuse_if (leb f w) 27 (at_end i (second_at start i)) then
-    refuse_if (eqb v w) 10 (at_end i (second_at start i))
+    refuse_if (leb f v) reason.FirstEnd (at_end i (first_at start i)) then
+    refuse_if (leb f w) reason.SecondEnd (at_end i (second_at start i)) then
+    refuse_if (eqb v w) reason.SameEnd (at_end i (second_at start i))
 
 -- the n nets in order
 unfoldable pub nets_verdict : ℕ → ℕ → (ℕ → ℕ) → (ℕ → ℕ) → ℕ → Verdict
@@ -58,13 +56,9 @@ nets_verdict f start first second n = first_refusal (λ i. net_verdict f start i
 unfoldable pub job_verdict : List ℕ → Verdict
 job_verdict job = head_verdict job then length_verdict job then nets_verdict (f_in job) (nets_at job) (first_in job) (second_in job) (n_in job)
 
--- a verdict as an answer: passed, with the numbers of the job's head; or refused
-abbrev pub checked_by : Verdict → Head → Checked
-checked_by verdict.Done h = Passed h
-checked_by (verdict.Refused r) h = Refused r
-
-abbrev pub checked_of : List ℕ → Checked
-checked_of job = checked_by (job_verdict job) (head_in job)
+-- the same as an answer, with the numbers of the job's head
+abbrev pub checked_of : List ℕ → Result Head Refusal
+checked_of job = answer (job_verdict job) (head_in job)
 
 -- ---- what a check that is done has shown
 

@@ -2,3 +2,4 @@
 pub mod Job
 pub mod Check
 pub mod Read
+pub mod Board

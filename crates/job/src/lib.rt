@@ -1,6 +1,9 @@
 // The job file: what stands where, its check, and what it says. No other crate knows a byte of it.
 #![tactic(auto)]
 
+ghost use Rattle.job.specs.Check.{WellFormed};
+
+pub mod open;
 pub mod read;
 pub mod well_formed;
 
@@ -26,16 +29,10 @@ pub struct Head {
     pub start: usize,
 }
 
-// The job check's answer.
+// A job that passed the check: the caller's own bytes, and the numbers of their head.
 #[derive(Clone, Copy)]
-pub enum Checked {
-    Passed(Head),
-    Refused(words::Refusal),
-}
-
-// What stands at a net's number.
-#[derive(Clone, Copy)]
-pub enum NetEnds {
-    Ends(words::Fpga, words::Fpga),
-    NoNet,
+pub struct Job<'a> {
+    pub bytes: &'a [u8],
+    pub head: Head,
+    pub ghost well_formed: { WellFormed bytes.now head },
 }

@@ -1,12 +1,13 @@
 // The job check: passed, or a refusal (1 to 10, 27), in document 01's order, with 27 in document 02's place.
-ghost use Rattle.std.specs.Prelude.{◌≡◌, ◌≤◌, ◌<◌, length};
+ghost use Rattle.std.specs.Prelude.{◌≡◌, ◌≤◌, ◌<◌, length, IfOk};
+ghost use Rattle.words.specs.Verdict.{verdict_of};
 ghost use Rattle.job.specs.Job.{nets_at, n_in, first_at, first_in, second_in};
-ghost use Rattle.job.specs.Check.{outside, ranges_verdict, head_verdict, length_verdict, net_verdict, nets_verdict, checked_by, checked_of};
+ghost use Rattle.job.specs.Check.{outside, ranges_verdict, head_verdict, length_verdict, net_verdict, nets_verdict, job_verdict};
 
-use crate::read::{first_at, first_end, head_in, nets_at, second_at, second_end};
-use crate::{C_AT, Checked, F_AT, HEAD_LONG, Head, M_AT, N_AT};
-use words::number::{read, wide};
-use words::{Net, Place, Verdict, refuse};
+use crate::read::{ends_at, first_at, head_in, nets_at, second_at};
+use crate::{C_AT, F_AT, HEAD_LONG, Head, Job, M_AT, N_AT};
+use words::number::read;
+use words::{Net, Place, Reason, Refusal, Verdict, refuse_if};
 
 fn outside(smallest: usize, largest: usize, x: usize) -> bool
     ensures { result ≡ outside smallest largest x }
@@ -18,22 +19,11 @@ fn outside(smallest: usize, largest: usize, x: usize) -> bool
 pub fn check_ranges(f: usize, c: usize, m: usize, n: usize) -> Verdict
     ensures { result ≡ ranges_verdict f c m n }
 {
-    if outside(1, 256, f) {
-        return refuse(3, Place::Byte(F_AT));
-    }
-    if outside(1, 128, c) {
-        return refuse(4, Place::Byte(C_AT));
-    }
-    if outside(1, 64, m) {
-        return refuse(5, Place::Byte(M_AT));
-    }
-    if m == 1 {
-        return refuse(6, Place::Byte(M_AT));
-    }
-    if 4096 < n {
-        return refuse(7, Place::Byte(N_AT));
-    }
-    Verdict::Done
+    refuse_if(outside(1, 256, f), Reason::FpgaCount, Place::Byte(F_AT))?;
+    refuse_if(outside(1, 128, c), Reason::CrossbarCount, Place::Byte(C_AT))?;
+    refuse_if(outside(1, 64, m), Reason::WireCount, Place::Byte(M_AT))?;
+    refuse_if(m == 1, Reason::LoneWire, Place::Byte(M_AT))?;
+    refuse_if(4096 < n, Reason::NetCount, Place::Byte(N_AT))
 }
 
 // Refusals 9, 27 and 10, for net i between FPGAs v and w, where the nets start at byte `start`.
@@ -41,30 +31,23 @@ pub fn check_net(f: usize, start: usize, i: u16, v: usize, w: usize) -> Verdict
     requires { start < 65536 }
     ensures { result ≡ net_verdict f start i v w }
 {
-    let first = first_at(start, wide(i));
-    let second = second_at(start, wide(i));
-    if f <= v {
-        return refuse(9, Place::End(Net(i), first));
-    }
-    if f <= w {
-        return refuse(27, Place::End(Net(i), second));
-    }
-    if v == w {
-        return refuse(10, Place::End(Net(i), second));
-    }
-    Verdict::Done
+    let first = Place::End(Net(i), first_at(start, i as usize));
+    let second = Place::End(Net(i), second_at(start, i as usize));
+    refuse_if(f <= v, Reason::FirstEnd, first)?;
+    refuse_if(f <= w, Reason::SecondEnd, second)?;
+    refuse_if(v == w, Reason::SameEnd, second)
 }
 
 // The head: 1 to 7.
 fn check_head(job: &[u8]) -> Verdict
     ensures { result ≡ head_verdict job.now }
 {
-    if job.len() < HEAD_LONG {
-        return refuse(1, Place::Length(job.len()));
-    }
-    if read(job, 0) != 3 {
-        return refuse(2, Place::Byte(0));
-    }
+    refuse_if(
+        job.len() < HEAD_LONG,
+        Reason::JobShort,
+        Place::Length(job.len()),
+    )?;
+    refuse_if(read(job, 0) != 3, Reason::BoardCount, Place::Byte(0))?;
     let head = head_in(job);
     check_ranges(head.f, head.c, head.m, head.n)
 }
@@ -75,56 +58,31 @@ fn check_length(job: &[u8], n: usize) -> Verdict
     ensures { result ≡ length_verdict job.now }
 {
     let end = first_at(nets_at(job), n);
-    if job.len() < end {
-        return refuse(1, Place::Length(job.len()));
-    }
-    if end < job.len() {
-        return refuse(8, Place::Byte(end));
-    }
-    Verdict::Done
+    refuse_if(job.len() < end, Reason::JobShort, Place::Length(job.len()))?;
+    refuse_if(end < job.len(), Reason::JobLong, Place::Byte(end))
 }
 
-// The nets in order: 9, 27 and 10.
+// The nets in order: 9, 27 and 10. Job and head apart, since only a job that passes is a `Job`.
 fn check_nets(job: &[u8], head: Head) -> Verdict
-    requires start_value { (head.start ≡ nets_at job.now) × (length job.now ≡ first_at head.start head.n) × (head.n ≤ 4096) }
-    requires start_bound { head.start < 65536 }
+    requires whole { (head.start ≡ nets_at job.now) × (length job.now ≡ first_at head.start head.n) × (head.n ≤ 4096) }
+    requires low { head.start < 65536 }
     ensures { result ≡ nets_verdict head.f head.start (first_in job.now) (second_in job.now) head.n }
 {
-    let n = head.n;
-    let mut i: usize = 0;
-    while i < n {
-        let v = first_end(job, head.start, i);
-        let w = second_end(job, head.start, i);
-        let verdict = check_net(head.f, head.start, i as u16, v, w);
-        i += 1;
-        if let Verdict::Refused(_) = verdict {
-            return verdict;
-        }
+    for i in 0..head.n {
+        let (v, w) = ends_at(job, head.start, i);
+        check_net(head.f, head.start, i as u16, v, w)?;
     }
-    Verdict::Done
+    Ok(())
 }
 
-// A verdict on a job with this head, as an answer.
-pub fn checked_by(verdict: Verdict, head: Head) -> Checked
-    ensures { result ≡ checked_by verdict head }
+// The job check.
+pub fn check_job<'a>(job: &'a [u8]) -> Result<Job<'a>, Refusal>
+    ensures verdict { verdict_of result ≡ job_verdict job.now }
+    ensures bytes { IfOk result (λ checked. checked.bytes ≡ job.entry) }
 {
-    match verdict {
-        Verdict::Done => Checked::Passed(head),
-        Verdict::Refused(r) => Checked::Refused(r),
-    }
-}
-
-pub fn check_job(job: &[u8]) -> Checked
-    ensures { result ≡ checked_of job.now }
-{
-    let first = check_head(job);
-    if let Verdict::Refused(r) = first {
-        return Checked::Refused(r);
-    }
+    check_head(job)?;
     let head = head_in(job);
-    let long = check_length(job, head.n);
-    if let Verdict::Refused(r) = long {
-        return Checked::Refused(r);
-    }
-    checked_by(check_nets(job, head), head)
+    check_length(job, head.n)?;
+    check_nets(job, head)?;
+    Ok(Job { bytes: job, head })
 }

@@ -6,7 +6,7 @@ use Prim.Native.Nat.{ℕ, suc, ◌+◌, ◌*◌, ◌≤◌, ◌<◌}
 use native.Mathlib.Omega.{arith}
 use lib.ListN.{length, get_or, take, drop, length-drop}
 use lib.Seq.{length-take-le, get_or-take, drop-drop, take_all}
-use Rattle.words.specs.declared.Verdict.TheVariants.{Done}
+use Rattle.std.specs.Prelude.{Ok}
 use Rattle.words.specs.Number.{word, bytes, numbers, AreBytes}
 use Rattle.words.proofs.Order.{first_same}
 use Rattle.words.proofs.Bytes.{length_bytes, word_bytes, numbers_bytes, bytes_numbers, number_at, numbers_first, word_drop, length_numbers}
@@ -72,21 +72,21 @@ module _ (f c m n : ℕ) (ends : List ℕ) (enough : 2 * n ≤ length ends) wher
   written_second i l = place (2 * i + 1) _ (omega arith) (omega arith)
 
   -- the stages of the check, on what was written
-  written_head : ranges_verdict f c m n ≡ Done → head_verdict (job_of f c m n ends) ≡ Done
+  written_head : ranges_verdict f c m n ≡ Ok tt → head_verdict (job_of f c m n ends) ≡ Ok tt
   written_head ranges = by_ranges _ (omega (arith, written_long)) written_count ∙ rw (written_f, written_c, written_m, written_n) ranges
 
-  written_end : length_verdict (job_of f c m n ends) ≡ Done
+  written_end : length_verdict (job_of f c m n ends) ≡ Ok tt
   unfolding nets_at
   written_end = right_length _ (omega (arith, written_long, written_n))
 
-  written_passes : (room : ℕ) → write_verdict f c m n ends room ≡ Done → job_verdict (job_of f c m n ends) ≡ Done
+  written_passes : (room : ℕ) → write_verdict f c m n ends room ≡ Ok tt → job_verdict (job_of f c m n ends) ≡ Ok tt
   unfolding nets_at
   written_passes room done =
       by_nets _ (written_head (wrote_ranges f c m n ends room done)) written_end
       ∙ rw (written_f, written_n) (nets_same f head_long _ _ _ _ n written_first written_second ∙ wrote_nets f c m n ends room done)
 
 -- Files read back as written.
-pub reads_back : (f c m n : ℕ) (ends : List ℕ) (room : ℕ) → write_verdict f c m n ends room ≡ Done → Means (job_of f c m n ends) f c m n (take (2 * n) ends)
+pub reads_back : (f c m n : ℕ) (ends : List ℕ) (room : ℕ) → write_verdict f c m n ends room ≡ Ok tt → Means (job_of f c m n ends) f c m n (take (2 * n) ends)
 reads_back f c m n ends room done =
     let enough = wrote_enough f c m n ends room done in
     record {
@@ -129,7 +129,7 @@ module _ (job : List ℕ) (long : length job ≡ job_length job) where
   nets_second i l = net_number (2 * i + 1) _ (omega arith) (omega arith)
 
 -- A job that passes the check is what the writer writes for what it reads as.
-module _ (job : List ℕ) (done : job_verdict job ≡ Done) where
+module _ (job : List ℕ) (done : job_verdict job ≡ Ok tt) where
   long : length job ≡ job_length job
   long = (passes job done).long
 
@@ -140,7 +140,7 @@ module _ (job : List ℕ) (done : job_verdict job ≡ Done) where
       ∙ ap bytes (head_numbers job (head_is_long job (its_head job done)))
       ∙ rw (three job (its_head job done), take_all (2 * n_in job) (nets_in job) (omega (arith, nets_length job long)))
 
-  pub writer_accepts : (room : ℕ) → length job ≤ room → write_verdict (f_in job) (c_in job) (m_in job) (n_in job) (nets_in job) room ≡ Done
+  pub writer_accepts : (room : ℕ) → length job ≤ room → write_verdict (f_in job) (c_in job) (m_in job) (n_in job) (nets_in job) room ≡ Ok tt
   unfolding nets_at
   writer_accepts room h =
       by_ends _ _ _ _ _ room (its_ranges job (its_head job done)) (omega (arith, nets_length job long)) (omega (arith, long))
@@ -155,5 +155,5 @@ pub same_meaning : (job₁ job₂ : List ℕ) (f c m n : ℕ) (ends : List ℕ) 
 same_meaning job₁ job₂ f c m n ends s₁ s₂ e₁ e₂ = only_one job₁ f c m n ends s₁ e₁ ∙ sym (only_one job₂ f c m n ends s₂ e₂)
 
 -- A net turned round makes another job.
-pub turned_is_another : (job₁ job₂ : List ℕ) (i : ℕ) → job_verdict job₁ ≡ Done → i < n_in job₁ → first_in job₂ i ≡ second_in job₁ i → job₁ ≡ job₂ → ⊥
+pub turned_is_another : (job₁ job₂ : List ℕ) (i : ℕ) → job_verdict job₁ ≡ Ok tt → i < n_in job₁ → first_in job₂ i ≡ second_in job₁ i → job₁ ≡ job₂ → ⊥
 turned_is_another job₁ job₂ i done l t e = ((passes job₁ done).nets i l).apart (ap (λ (s : List ℕ). first_in s i) e ∙ t)

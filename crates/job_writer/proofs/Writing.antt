@@ -1,13 +1,12 @@
--- The writer's verdict at each check that refuses, and where none does.
+-- The writer's verdict where no check before the nets refuses, and what a done verdict has shown.
 -- Assumes nothing.
 use mathlib.Core.Path.{◌≡◌, refl}
 use mathlib.Core.List.{List, [], ◌∷◌, ◌++◌}
-use Prim.Native.Nat.{ℕ, ◌*◌, ◌≤◌, ◌<◌}
+use Prim.Native.Nat.{ℕ, ◌*◌, ◌≤◌}
 use lib.ListN.{length, take, drop}
-use borrow.Author.Tests.{lt-ltb, le-ltb}
-use Rattle.words.specs.declared.Refusal.{Refusal}
-use Rattle.words.specs.declared.Verdict.TheVariants.{Done, Refused}
-use Rattle.words.specs.Verdict.{refuse, refuse_if, ◌then◌, nowhere}
+use borrow.Author.Tests.{le-ltb}
+use Rattle.std.specs.Prelude.{Ok}
+use Rattle.words.specs.Verdict.{refuse_if, ◌then◌}
 use Rattle.words.specs.Number.{bytes}
 use Rattle.words.specs.Lent.{onto}
 use Rattle.words.proofs.Bytes.{write_more}
@@ -17,27 +16,14 @@ use Rattle.job.specs.Check.{ranges_verdict, nets_verdict}
 use Rattle.job_writer.specs.Write.{first_of, second_of, written_length, write_verdict, job_of}
 
 module _ (f c m n : ℕ) (ends : List ℕ) (room : ℕ) where
-  pub write_out_of_range : (r : Refusal) → ranges_verdict f c m n ≡ Refused r → write_verdict f c m n ends room ≡ Refused r
+  pub by_ends : ranges_verdict f c m n ≡ Ok tt → 2 * n ≤ length ends → written_length n ≤ room
+      → write_verdict f c m n ends room ≡ nets_verdict f head_long (first_of ends) (second_of ends) n
   unfolding write_verdict refuse_if ◌then◌
-  write_out_of_range r h = simp h
-
-  module _ (ranges : ranges_verdict f c m n ≡ Done) where
-    pub too_few : length ends < 2 * n → write_verdict f c m n ends room ≡ refuse 11 nowhere
-    unfolding write_verdict refuse_if ◌then◌
-    too_few h = simp (ranges, lt-ltb _ _ h)
-
-    module _ (enough : 2 * n ≤ length ends) where
-      pub too_small : room < written_length n → write_verdict f c m n ends room ≡ refuse 11 nowhere
-      unfolding write_verdict refuse_if ◌then◌
-      too_small h = simp (ranges, le-ltb _ _ enough, lt-ltb _ _ h)
-
-      pub by_ends : written_length n ≤ room → write_verdict f c m n ends room ≡ nets_verdict f head_long (first_of ends) (second_of ends) n
-      unfolding write_verdict refuse_if ◌then◌
-      by_ends h = simp (ranges, le-ltb _ _ enough, le-ltb _ _ h)
+  by_ends ranges enough h = simp (ranges, le-ltb _ _ enough, le-ltb _ _ h)
 
   -- what a done verdict has shown
-  module _ (done : write_verdict f c m n ends room ≡ Done) where
-    pub wrote_ranges : ranges_verdict f c m n ≡ Done
+  module _ (done : write_verdict f c m n ends room ≡ Ok tt) where
+    pub wrote_ranges : ranges_verdict f c m n ≡ Ok tt
     unfolding write_verdict
     wrote_ranges = then_first _ _ done
 
@@ -49,7 +35,7 @@ module _ (f c m n : ℕ) (ends : List ℕ) (room : ℕ) where
     unfolding write_verdict
     wrote_room = (long_enough _ _).0 (then_first _ _ (then_second _ _ (then_second _ _ done)))
 
-    pub wrote_nets : nets_verdict f head_long (first_of ends) (second_of ends) n ≡ Done
+    pub wrote_nets : nets_verdict f head_long (first_of ends) (second_of ends) n ≡ Ok tt
     unfolding write_verdict
     wrote_nets = then_second _ _ (then_second _ _ (then_second _ _ done))
 

@@ -1,8 +1,6 @@
 -- The job writer: f, c, m, n and a list of FPGA numbers, two for each net, to a job in lent room.
-use Rattle.std.specs.Prelude.{◌≡◌, List, [], ◌∷◌, ℕ, ◌+◌, ◌*◌, length, get_or, take}
-use Rattle.words.specs.declared.Verdict.{Verdict}
-use Rattle.words.specs.declared.Verdict.TheVariants.{Done}
-use Rattle.words.specs.Verdict.{too_short, ◌then◌}
+use Rattle.std.specs.Prelude.{◌≡◌, List, [], ◌∷◌, ℕ, ◌+◌, ◌*◌, length, get_or, take, Ok}
+use Rattle.words.specs.Verdict.{Verdict, too_short, ◌then◌}
 use Rattle.words.specs.Number.{bytes}
 use Rattle.job.specs.Job.{head_long, first_at, f_in, c_in, m_in, n_in, nets_in}
 use Rattle.job.specs.Check.{ranges_verdict, nets_verdict, job_verdict}
@@ -35,7 +33,7 @@ job_of f c m n ends = bytes (3 ∷ f ∷ c ∷ m ∷ n ∷ take (2 * n) ends)
 
 -- what a job file means: it passes the check, these are its numbers, and these the FPGAs of its nets
 pub record Means (job : List ℕ) (f c m n : ℕ) (ends : List ℕ) : Type 0 where
-  pub passes : job_verdict job ≡ Done
+  pub passes : job_verdict job ≡ Ok tt
   pub same_f : f_in job ≡ f
   pub same_c : c_in job ≡ c
   pub same_m : m_in job ≡ m

@@ -3,7 +3,7 @@
 use mathlib.Core.Path.{◌≡◌, ap, sym, ◌∙◌}
 use mathlib.Core.List.{List}
 use mathlib.Core.Logic.{dite}
-use Prim.Native.Nat.{ℕ, ◌+◌, ◌*◌, ◌≤◌, ◌<◌}
+use Prim.Native.Nat.{ℕ, ◌+◌, ◌≤◌, ◌<◌}
 use native.Mathlib.Decide.{ℕ_discrete}
 use native.Mathlib.Omega.{arith}
 use lib.Dec.{eqb}
@@ -12,7 +12,7 @@ use lib.Seq.{get_or-set_same, get_or-set_other}
 use Rattle.laws.specs.Sum.{sum, when}
 use Rattle.laws.specs.Row.{at}
 use Rattle.laws.specs.Count.{Counted}
-use Rattle.laws.proofs.Sum.{sum_more, sum_at_most, when_here, when_else, when_at_most}
+use Rattle.laws.proofs.Sum.{sum_more, when_here, when_else, when_at_most}
 
 -- the counters with one more at v
 abbrev pub bump : List ℕ → ℕ → List ℕ
@@ -60,7 +60,3 @@ module _ (g : ℕ → ℕ → ℕ) (n : ℕ) where
     walk_counts_two v w h k e =
         counted_same (λ u. sum (g u) i + when (eqb v u) 1 + when (eqb w u) 1) (λ u. sum (g u) (i + 1)) (λ u q. omega (arith, sum_more (g u) i, e u q))
         (counted_bump (λ u. sum (g u) i + when (eqb v u) 1) w k (counted_bump (λ u. sum (g u) i) v h c))
-
-    -- no counter is above w for each item
-    pub walk_at_most : (w : ℕ) → ((u j : ℕ) → g u j ≤ w) → (u : ℕ) → u < n → at l u ≤ i * w
-    walk_at_most w h u q = omega (arith, c.count u q, sum_at_most (g u) w i (λ j _. h u j))

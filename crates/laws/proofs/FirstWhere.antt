@@ -6,7 +6,6 @@ use mathlib.Core.Logic.{◌↔◌, dite}
 use Prim.Native.Nat.{ℕ, zero, suc, ◌+◌, min, ◌≤◌, ◌<◌}
 use native.Mathlib.Decide.{ℕ_discrete, dec_lt}
 use native.Mathlib.Omega.{arith}
-use lib.Dec.{ltb}
 use borrow.Author.Tests.{lt-ltb, le-ltb, ltb-true, ltb-false}
 use Rattle.laws.specs.Lowest.{Lowest, step_unless, first_where, somewhere}
 use Rattle.laws.specs.Test.{Says}
@@ -56,16 +55,9 @@ module _ (t : ℕ → Bool) where
         (λ nl. omega (arith, first_where_at_most n)),
   )
 
-  -- a loop over i: what was found stays; the test holds at i; the test fails at i
+  -- what was found below i stays found
   pub first_where_kept : (i n : ℕ) → first_where t i < i → i ≤ n → first_where t n ≡ first_where t i
   first_where_kept i n l h = first_where_is (first_where t i) n (omega arith) (first_where_holds i l) (first_where_before i)
-
-  pub first_where_here : (i n : ℕ) → first_where t i ≡ i → t i ≡ true → i < n → first_where t n ≡ i
-  first_where_here i n e h l = first_where_is i n l h ((first_where_none i).0 e)
-
-  pub first_where_on : (i : ℕ) → first_where t i ≡ i → t i ≡ false → first_where t (i + 1) ≡ i + 1
-  first_where_on i e h =
-      (first_where_none (i + 1)).1 (λ k l. dite (ℕ_discrete k i) (λ q. ap t q ∙ h) (λ ne. (first_where_none i).0 e k (omega arith)))
 
   -- a search that ends early, at i, finds the first of all or stops at i
   pub first_where_within : (i n : ℕ) → i ≤ n → first_where t i ≡ min i (first_where t n)
@@ -116,14 +108,6 @@ module _ (t : ℕ → Bool) {P : ℕ → Type 0} (says : (k : ℕ) → Says (t k
     λ e. first_where_lowest n (ltb-true (first_where t n) n e),
     λ w. lt-ltb (first_where t n) n (omega (arith, lowest_is_first n w, w.below)),
   )
-
--- a loop for the first number where f is below g
-module _ (f g : ℕ → ℕ) where
-  pub first_less_here : (i n : ℕ) → first_where (λ k. ltb (f k) (g k)) i ≡ i → f i < g i → i < n → first_where (λ k. ltb (f k) (g k)) n ≡ i
-  first_less_here i n e h l = first_where_here (λ k. ltb (f k) (g k)) i n e (lt-ltb (f i) (g i) h) l
-
-  pub first_less_on : (i : ℕ) → first_where (λ k. ltb (f k) (g k)) i ≡ i → g i ≤ f i → first_where (λ k. ltb (f k) (g k)) (i + 1) ≡ i + 1
-  first_less_on i e h = first_where_on (λ k. ltb (f k) (g k)) i e (le-ltb (f i) (g i) h)
 
 -- two tests
 module _ (s t : ℕ → Bool) where

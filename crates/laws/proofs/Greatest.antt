@@ -2,9 +2,8 @@
 -- Assumes nothing.
 use mathlib.Core.Path.{◌≡◌, refl, ap}
 use mathlib.Core.Logic.{◌≢◌, dite}
-use Prim.Native.Nat.{ℕ, zero, suc, ◌+◌, ◌≤◌, ◌<◌, max}
+use Prim.Native.Nat.{ℕ, zero, suc, ◌+◌, ◌≤◌, ◌<◌}
 use native.Mathlib.Decide.{ℕ_discrete, dec_le}
-use native.Mathlib.Numerals.{add-one}
 use native.Mathlib.Omega.{arith}
 use Rattle.laws.specs.Sum.{greatest, least}
 
@@ -47,11 +46,6 @@ module _ (f : ℕ → ℕ) where
   least_is (suc (suc n)) l =
       let w = least_is (suc n) (omega arith) in
       dite (dec_le (least f (suc n)) (f (suc n))) (λ h. (w.0, omega (arith, w.1), omega (arith, w.2))) (λ h. (suc n, omega arith, omega arith))
-
-  -- one more, as the code has it
-  pub greatest_more : (n : ℕ) → greatest f (n + 1) ≡ max (greatest f n) (f n)
-  unfolding greatest
-  greatest_more n = rw add-one
 
   -- every two are within w of each other if the greatest and the least are
   pub all_near : (w n : ℕ) → greatest f n ≤ least f n + w → (x y : ℕ) → x < n → y < n → f x ≤ f y + w

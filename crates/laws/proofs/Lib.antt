@@ -6,7 +6,6 @@ pub mod Remainder
 pub mod Lowest
 pub mod FirstWhere
 pub mod Test
-pub mod Part
 pub mod Row
 pub mod Cases
 pub mod Matching

@@ -1,9 +1,7 @@
 -- The lines of a listing, as document 01 has them.
-use Rattle.std.specs.Prelude.{List, [], ◌∷◌, ◌++◌, ℕ}
+use Rattle.std.specs.Prelude.{List, [], ◌∷◌, ◌++◌, ℕ, Err}
 use Rattle.words.specs.declared.Refusal.{Refusal}
-use Rattle.words.specs.declared.Verdict.{Verdict}
-use Rattle.words.specs.declared.Verdict.TheVariants as verdict
-use Rattle.words.specs.Verdict.{number_of, p_of, q_of}
+use Rattle.words.specs.Verdict.{Verdict, number_of, p_of, q_of}
 use Rattle.job.specs.Job.{f_in, c_in, m_in, n_in}
 use Rattle.board.specs.Netlist.{Netlist}
 use Rattle.board.specs.Board.{total}
@@ -58,4 +56,4 @@ verdict_text v = spaced (number_of v) ++ (spaced (p_of v) ++ spaced (q_of v))
 
 -- a refusal: its three numbers
 unfoldable pub refusal_line : Refusal → List ℕ
-refusal_line r = refused_word ++ (verdict_text (verdict.Refused r) ++ (10 ∷ []))
+refusal_line r = refused_word ++ (verdict_text (Err r) ++ (10 ∷ []))

@@ -2,25 +2,26 @@
 -- Assumes nothing.
 use mathlib.Core.Path.{◌≡◌}
 use mathlib.Core.List.{List}
-use Prim.Native.Nat.{ℕ, ◌≤◌, ◌<◌}
+use Prim.Native.Nat.{ℕ, ◌≤◌}
 use native.Mathlib.Omega.{arith}
 use lib.ListN.{length}
+use denote.Ref.{Bor}
+use Rattle.std.specs.Prelude.{Ok, Err}
 use Rattle.laws.specs.Row.{at}
 use Rattle.words.specs.declared.Refusal.{Refusal}
-use Rattle.words.specs.declared.Verdict.TheVariants as verdict
 use Rattle.words.proofs.Order.{then_first}
-use Rattle.job.specs.declared.Head.{Head}
-use Rattle.job.specs.Job.{head_in, job_in}
-use Rattle.job.specs.Check.{job_verdict, WellFormed}
+use Rattle.job.specs.declared.Job.{Job}
+use Rattle.job.specs.Board.{board_of}
+use Rattle.job.specs.Check.{job_verdict}
 use Rattle.board.specs.Board.{InRange}
 use Rattle.board.proofs.Excess.{total_excess_at_most}
 use Rattle.job.proofs.Sound.{sound}
 use Rattle.refusals.specs.Start.{plan_verdict, Fitting}
-use Rattle.refusals.proofs.Starting.{fitting}
+use Rattle.refusals.proofs.Starting.{plan_fits}
 use Rattle.round.proofs.Planning.{dealt_in_range}
 use Rattle.round.proofs.Chains.{chain_at_most}
-use Rattle.finish.specs.declared.Finish.{Finish}
-use Rattle.finish.specs.declared.Finish.TheVariants.{Done, Refused}
+use Rattle.finish.specs.declared.Rounds.{Rounds}
+use Rattle.finish.specs.Answer.{Finish}
 use Rattle.finish.specs.Plan.{dealt, PlannedIn, PlanCall}
 use Rattle.finish.proofs.Dealing.{dealt_alike}
 use Rattle.finish.proofs.Promises.{done_planned}
@@ -29,54 +30,54 @@ use Rattle.lines.specs.Lines.{refusal_line}
 use Rattle.list.specs.Listing.{plan_lines, Listed}
 use Rattle.list.proofs.Short.{plan_short}
 
-module _ (job plan₀ plan s₀ s : List ℕ) (r : Finish) (call : PlanCall job plan₀ plan s₀ s r) where
-  -- k rounds from the excess e: what the lines need
-  module _ (k e : ℕ) (q : r ≡ Done k e) where
-    planned : PlannedIn job plan₀ plan s₀ s k e
-    planned = (done_planned job plan₀ plan s₀ s k e (rw q at call)).1
+module _ (bytes : Bor (List ℕ)) (plan₀ plan s₀ s : List ℕ) (r : Finish) (call : PlanCall bytes.now plan₀ plan s₀ s r) where
+  -- some rounds: what the lines need
+  module _ (rounds : Rounds) (q : r ≡ Ok rounds) where
+    planned : PlannedIn bytes.now plan₀ plan s₀ s rounds.made rounds.excess
+    planned = (done_planned bytes.now plan₀ plan s₀ s rounds.made rounds.excess (rw q at call)).1
 
-    accepted : plan_verdict job (length plan₀) (length s₀) ≡ verdict.Done
-    accepted = (done_planned job plan₀ plan s₀ s k e (rw q at call)).0
+    accepted : plan_verdict bytes.now (length plan₀) (length s₀) ≡ Ok tt
+    accepted = (done_planned bytes.now plan₀ plan s₀ s rounds.made rounds.excess (rw q at call)).0
 
-    pub job_passes : job_verdict job ≡ verdict.Done
+    pub job_passes : job_verdict bytes.now ≡ Ok tt
     unfolding plan_verdict
     job_passes = then_first _ _ accepted
 
-    module _ (h : Head) (d : h ≡ head_in job) where
-      fits : Fitting job h (length plan₀) (length s₀)
-      fits = rw d (fitting job (length plan₀) (length s₀) accepted)
+    module _ (job : Job) (d : job.bytes ≡ bytes) where
+      fits : Fitting job (length plan₀) (length s₀)
+      fits = plan_fits job (length plan₀) (length s₀) bytes d accepted
 
-      pub to_list : ((WellFormed job h) × (h.n ≤ length plan)) × ((i : ℕ) → i < h.n → at plan i < 128)
-      to_list =
-          let p = fits.passed in (
-            (p, omega (arith, fits.every_net, planned.memory.long)),
-            λ i l. omega (arith, planned.planned.in_range i (omega (arith, p.n)), p.c, p.ranged.c_high),
-          )
+      its_plan : PlannedIn job.bytes.now plan₀ plan s₀ s rounds.made rounds.excess
+      its_plan = rw d planned
 
-      dealt_low : InRange (job_in job) (at (dealt (job_in job) plan₀))
-      dealt_low = dealt_in_range (job_in job) (sound job h fits.passed) _ (dealt_alike (job_in job) plan₀)
+      pub every_net : job.head.n ≤ length plan
+      every_net = omega (arith, fits.every_net, its_plan.memory.long)
+
+      dealt_low : InRange (board_of job) (at (dealt (board_of job) plan₀))
+      dealt_low = dealt_in_range (board_of job) (sound job.bytes.now job.head job.well_formed) _ (dealt_alike (board_of job) plan₀)
 
       -- no more than two rounds, and no more excess than two, for each net
-      few_rounds : k ≤ 8192
+      few_rounds : rounds.made ≤ 8192
       few_rounds =
-          let p = fits.passed in
-          omega (arith, chain_at_most (job_in job) _ fits.within dealt_low planned.finished.chain, p.n, p.ranged.n_high)
+          let p = job.well_formed in
+          omega (arith, chain_at_most (board_of job) _ fits.within dealt_low its_plan.finished.chain, p.n, p.ranged.n_high)
 
-      little_excess : e ≤ 8192
+      little_excess : rounds.excess ≤ 8192
       little_excess =
-          let p = fits.passed in
-          omega (arith, planned.finished.excess, total_excess_at_most (job_in job) _ dealt_low, p.n, p.ranged.n_high)
+          let p = job.well_formed in
+          omega (arith, its_plan.finished.excess, total_excess_at_most (board_of job) _ dealt_low, p.n, p.ranged.n_high)
 
-      pub plan_listed : (room₀ room : List ℕ) (end : ℕ) → up_to room end ≡ puts (up_to room₀ 0) (plan_lines job plan k e) → Listed job plan₀ plan s₀ s room₀ room end
+      pub plan_listed : (room₀ room : List ℕ) (end : ℕ) → up_to room end ≡ puts (up_to room₀ 0) (plan_lines job.bytes.now plan rounds.made rounds.excess)
+          → Listed bytes.now plan₀ plan s₀ s room₀ room end
       plan_listed room₀ room end t =
           record {
-            answer = Done k e;
+            answer = Ok rounds;
             planned = rw q at call;
-            listed = t;
-            short = plan_short job plan h fits.passed planned.planned.in_range k e few_rounds little_excess;
+            listed = rw d at t;
+            short = rw (← d) (plan_short job plan its_plan.planned.in_range rounds.made rounds.excess few_rounds little_excess);
           }
 
   -- a refusal
-  pub refusal_listed : (x : Refusal) → r ≡ Refused x → (room₀ room : List ℕ) (end : ℕ) → (up_to room end ≡ puts (up_to room₀ 0) (refusal_line x)) × (length (refusal_line x) ≤ 71)
-      → Listed job plan₀ plan s₀ s room₀ room end
-  refusal_listed x q room₀ room end t = record { answer = Refused x; planned = rw q at call; listed = t.0; short = omega (arith, t.1) }
+  pub refusal_listed : (x : Refusal) → r ≡ Err x → (room₀ room : List ℕ) (end : ℕ) → up_to room end ≡ puts (up_to room₀ 0) (refusal_line x) → length (refusal_line x) ≤ 71
+      → Listed bytes.now plan₀ plan s₀ s room₀ room end
+  refusal_listed x q room₀ room end t l = record { answer = Err x; planned = rw q at call; listed = t; short = omega arith }

@@ -7,9 +7,8 @@ use native.Mathlib.Omega.{arith}
 use lib.ListN.{length, length-append}
 use Rattle.laws.specs.Row.{at}
 use Rattle.words.specs.Lent.{onto}
-use Rattle.job.specs.declared.Head.{Head}
-use Rattle.job.specs.Job.{n_in, c_in, job_in}
-use Rattle.job.specs.Check.{WellFormed}
+use Rattle.job.specs.declared.Job.{Job}
+use Rattle.job.specs.Board.{board_of}
 use Rattle.board.specs.Netlist.{Netlist}
 use Rattle.board.specs.Board.{InRange}
 use Rattle.board.proofs.Loads.{total_at_most}
@@ -36,37 +35,41 @@ rounds_short : (k s : ℕ) → k < 10000 → s < 10000 → length (rounds_line k
 unfolding rounds_line
 rounds_short k s a b = simp length-append (omega (arith, spaced_short k a, spaced_short s b))
 
-module _ (job plan : List ℕ) (h : Head) (p : WellFormed job h) (low : InRange (job_in job) (at plan)) where
+module _ (job : Job) (plan : List ℕ) (low : InRange (board_of job) (at plan)) where
   abbrev J : Netlist
-  J = job_in job
+  J = board_of job
 
-  board_short : length (board_line job) ≤ 26
+  board_short : length (board_line job.bytes.now) ≤ 26
   board_short =
+      let p = job.well_formed in
       let r = p.ranged in
       line_short board_word _ (λ k l. few k _ _ _ _ (omega (arith, p.f)) (omega (arith, p.c)) (omega (arith, p.m)) (omega (arith, p.n)) l)
 
-  net_short : (i : ℕ) → i < n_in job → length (net_line J (at plan) i) ≤ 24
+  net_short : (i : ℕ) → i < J.n → length (net_line J (at plan) i) ≤ 24
   net_short i l =
+      let p = job.well_formed in
       let r = p.ranged in
       let j = p.nets i (omega (arith, p.n)) in
       line_short net_word _ (λ k h. few k _ _ _ _ (omega (arith, p.n)) (omega (arith, j.first_below)) (omega (arith, j.second_below)) (omega (arith, low i l, p.c)) h)
 
-  crossbar_short : (x : ℕ) → x < c_in job → length (crossbar_line J (at plan) x) ≤ 19
+  crossbar_short : (x : ℕ) → x < J.c → length (crossbar_line J (at plan) x) ≤ 19
   crossbar_short x l =
+      let p = job.well_formed in
       let r = p.ranged in
       line_short crossbar_word _ (λ k h. pair k _ _ (omega (arith, p.c)) (omega (arith, total_at_most J (at plan) x, p.n)) h)
 
-  pub plan_short : (k s : ℕ) → k ≤ 8192 → s ≤ 8192 → length (plan_lines job plan k s) ≤ listing_long
+  pub plan_short : (k s : ℕ) → k ≤ 8192 → s ≤ 8192 → length (plan_lines job.bytes.now plan k s) ≤ listing_long
   unfolding plan_lines
   plan_short k s hk hs =
+      let p = job.well_formed in
       let r = p.ranged in
       simp length-append
       (omega (
         arith,
         board_short,
         rounds_short k s (omega arith) (omega arith),
-        each_short (net_line J (at plan)) 24 (n_in job) net_short,
-        each_short (crossbar_line J (at plan)) 19 (c_in job) crossbar_short,
+        each_short (net_line J (at plan)) 24 J.n net_short,
+        each_short (crossbar_line J (at plan)) 19 J.c crossbar_short,
         p.n,
         p.c,
       ))

@@ -3,15 +3,15 @@
 
 ghost use Rattle.std.specs.Prelude.{◌≡◌, ℕ, ◌≤◌, ◌<◌, length};
 ghost use Rattle.laws.specs.Row as row;
-ghost use Rattle.job.specs.Check.{WellFormed};
-ghost use Rattle.text.specs.Text.{up_to, puts};
+ghost use Rattle.text.specs.Lent.{Gains};
 ghost use Rattle.list.specs.Listing.{plan_lines, listing_long, Listed};
 
-use finish::{Finish, calls};
-use job::Head;
-use job::read::head_of;
+use finish::{Rounds, calls};
+use job::Job;
+use job::open::open;
 use lines::{board_line, crossbar_lines, net_lines, refusal_line, rounds_line};
 use tally::count::totals_of;
+use text::Text;
 
 // Room for the listing of every job.
 pub const LISTING: usize = 100786;
@@ -23,24 +23,17 @@ pub fn listing_room() -> usize
     LISTING
 }
 
-// The listing of a plan of k rounds.
-fn plan_lines(
-    room: &mut [u8],
-    job: &[u8],
-    head: Head,
-    plan: &[u16],
-    k: usize,
-    excess: usize,
-) -> usize
-    requires well_formed { (WellFormed job.now head) × (head.n ≤ length plan.now) }
-    requires by_index { (i : ℕ) → i < head.n → row.at plan.now i < 128 }
-    ensures { up_to room.new result ≡ puts (up_to room.old 0) (plan_lines job.now plan.now k excess) }
+// The listing of a plan that these rounds made.
+fn plan_lines(text: &mut Text, job: &Job, plan: &[u16], rounds: Rounds)
+    requires every_net { job.now.head.n ≤ length plan.now }
+    requires in_range { (i : ℕ) → i < job.now.head.n → row.at plan.now i < 128 }
+    ensures { Gains text.old text.new (plan_lines job.now.bytes.now plan.now rounds.made rounds.excess) }
 {
-    let totals = totals_of(plan, head.n);
-    let board = board_line(room, 0, job, head);
-    let rounds = rounds_line(room, board, k, excess);
-    let nets = net_lines(room, rounds, job, head, plan);
-    crossbar_lines(room, nets, totals, head.c)
+    let totals = totals_of(plan, job.head.n);
+    board_line(text, job);
+    rounds_line(text, rounds.made, rounds.excess);
+    net_lines(text, job, plan);
+    crossbar_lines(text, &totals[..job.head.c]);
 }
 
 // Plans the job, and puts the listing of what came of it to the front of the room; answers how long it is.
@@ -48,8 +41,11 @@ pub fn list(job: &[u8], plan: &mut [u16], s: &mut [u16], room: &mut [u8]) -> usi
     ensures { Listed job.now plan.old plan.new s.old s.new
         room.old room.new result }
 {
-    match calls::plan(job, plan, s) {
-        Finish::Refused(r) => refusal_line(room, 0, r),
-        Finish::Done(k, excess) => plan_lines(room, job, head_of(job), plan, k, excess),
+    let planned = calls::plan(job, plan, s);
+    let mut text = Text::new(room);
+    match planned {
+        Err(r) => refusal_line(&mut text, r),
+        Ok(rounds) => plan_lines(&mut text, &open(job), plan, rounds),
     }
+    text.end
 }

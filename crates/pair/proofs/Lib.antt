@@ -3,4 +3,3 @@ pub mod Counting
 pub mod Linking
 pub mod Gathering
 pub mod Sweeping
-pub mod Placing

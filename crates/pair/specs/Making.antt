@@ -1,13 +1,12 @@
 -- The states of the two loops that make a pairing.
 -- `m` is the list of mates: an entry below n is the item's mate, and any other says that the item is free.
--- `p` holds what waits at each FPGA: 0 for nothing, j + 1 for item j.
-use Rattle.std.specs.Prelude.{◌≡◌, List, ◌≢◌, ℕ, ◌+◌, ◌-◌, ◌*◌, ◌%◌, ◌≤◌, ◌<◌, ltb, leb, length, get_or, set, replicate}
+-- `p` holds the item that waits at each FPGA.
+use Rattle.std.specs.Prelude.{◌≡◌, List, ◌≢◌, Option, Some, None, ℕ, ◌+◌, ◌*◌, ◌%◌, ◌≤◌, ◌<◌, ltb, leb, length, get_or, set, replicate}
 use Rattle.laws.specs.Sum.{sum, when}
-use Rattle.laws.specs.Part.{part, Kept}
 use Rattle.laws.specs.Row.{at}
 use Rattle.laws.specs.Matching.{is}
 use Rattle.scratch.specs.Scratch.{region}
-use Rattle.pair.specs.Pair.{fpga_count, count, ItemsIn}
+use Rattle.pair.specs.Pair.{fpga_count, count, Items}
 
 -- what stands for no mate
 abbrev pub no_mate : ℕ
@@ -40,45 +39,44 @@ pub record Made (n : ℕ) (m : List ℕ) : Type 0 where
   pub even : sum (free n m) n % 2 ≡ 0
   pub level : (x : ℕ → ℕ) → Lab x n → Differing x n m → sum (done n m x 0) n ≡ sum (done n m x 1) n
 
--- q, as `p` has it, is for a free item
-abbrev pub Waiting : ℕ → List ℕ → ℕ → Type 0
-Waiting n m q = (q ≤ n) × (n ≤ get_or m (q - 1) 0)
+-- the item that waits at FPGA v
+abbrev pub waiter : List (Option ℕ) → ℕ → Option ℕ
+waiter p v = get_or p v None
 
--- q is for a free item of the first i, at FPGA v
+-- j is a free item
+abbrev pub Waiting : ℕ → List ℕ → ℕ → Type 0
+Waiting n m j = (j < n) × (n ≤ get_or m j 0)
+
+-- j is a free item of the first i, at FPGA v
 abbrev pub WaitingAt : (ℕ → ℕ) → ℕ → List ℕ → ℕ → ℕ → ℕ → Type 0
-WaitingAt fpga n m i v q = (q ≤ i) × (fpga (q - 1) ≡ v) × (n ≤ get_or m (q - 1) 0)
+WaitingAt fpga n m i v j = (j < i) × (fpga j ≡ v) × (n ≤ get_or m j 0)
 
 -- with q waiting at an FPGA, c0 items there of label 0 and c1 of label 1
-abbrev pub Lean : (ℕ → ℕ) → ℕ → ℕ → ℕ → Type 0
-Lean x q c0 c1 = (q ≡ 0 → c1 ≡ c0) × (0 < q → c1 + 1 ≡ c0 + 2 * x (q - 1))
+abbrev pub Lean : (ℕ → ℕ) → Option ℕ → ℕ → ℕ → Type 0
+Lean x None c0 c1 = c1 ≡ c0
+Lean x (Some j) c0 c1 = c1 + 1 ≡ c0 + 2 * x j
 
 -- the first i items are paired within their FPGAs, but for one at most of each FPGA, which waits there
-pub record PairedUpTo (fpga : ℕ → ℕ) (n : ℕ) (m p : List ℕ) (i : ℕ) : Type 0 where
+pub record PairedUpTo (fpga : ℕ → ℕ) (n : ℕ) (m : List ℕ) (p : List (Option ℕ)) (i : ℕ) : Type 0 where
   pub made : Made n m
   pub wide : length p ≡ fpga_count
-  pub waits : (v : ℕ) → v < fpga_count → 0 < get_or p v 0 → WaitingAt fpga n m i v (get_or p v 0)
-  pub seen : (k : ℕ) → k < i → n ≤ get_or m k 0 → get_or p (fpga k) 0 ≡ k + 1
+  pub waits : (v j : ℕ) → v < fpga_count → waiter p v ≡ Some j → WaitingAt fpga n m i v j
+  pub seen : (k : ℕ) → k < i → n ≤ get_or m k 0 → waiter p (fpga k) ≡ Some k
   pub later : (k : ℕ) → k < n → i ≤ k → n ≤ get_or m k 0
-  pub lean : (x : ℕ → ℕ) → Lab x n → Differing x n m → (v : ℕ) → v < fpga_count → Lean x (get_or p v 0) (count fpga x v 0 i) (count fpga x v 1 i)
+  pub lean : (x : ℕ → ℕ) → Lab x n → Differing x n m → (v : ℕ) → v < fpga_count → Lean x (waiter p v) (count fpga x v 0 i) (count fpga x v 1 i)
 
 -- the place for the mates is blank
-pub record Blank (s : List ℕ) (fpgas mates n : ℕ) : Type 0 where
-  pub asked : ItemsIn s fpgas mates n
-  pub blank : part s mates n ≡ replicate n no_mate
-
--- the same in one list: s₀ was asked, and is s after i items
-pub record Placed (s₀ s : List ℕ) (fpgas mates n : ℕ) (p : List ℕ) (i : ℕ) : Type 0 where
-  pub asked : ItemsIn s₀ fpgas mates n
-  pub kept : Kept s₀ s mates n
-  pub held : PairedUpTo (at (part s₀ fpgas n)) n (part s mates n) p i
+pub record Blank (fpgas mates : List ℕ) : Type 0 where
+  pub items : Items (at fpgas) (length fpgas)
+  pub blank : mates ≡ replicate (length fpgas) no_mate
 
 -- the free items wait in p, each once
-pub record LeftWaiting (n : ℕ) (m p : List ℕ) : Type 0 where
+pub record LeftWaiting (n : ℕ) (m : List ℕ) (p : List (Option ℕ)) : Type 0 where
   pub made : Made n m
   pub small : n ≤ region
-  pub waits : (v : ℕ) → v < fpga_count → 0 < get_or p v 0 → Waiting n m (get_or p v 0)
-  pub once : (v w : ℕ) → v < fpga_count → w < fpga_count → v < w → 0 < get_or p w 0 → get_or p v 0 ≢ get_or p w 0
-  pub seen : (k : ℕ) → k < n → n ≤ get_or m k 0 → (v : ℕ) × (v < fpga_count) × (get_or p v 0 ≡ k + 1)
+  pub waits : (v j : ℕ) → v < fpga_count → waiter p v ≡ Some j → Waiting n m j
+  pub once : (v w j : ℕ) → v < fpga_count → w < fpga_count → v < w → waiter p v ≡ Some j → waiter p w ≡ Some j → ⊥
+  pub seen : (k : ℕ) → k < n → n ≤ get_or m k 0 → (v : ℕ) × (v < fpga_count) × (waiter p v ≡ Some k)
 
 -- m' has the pairs of m, and pairs every item
 pub record PairsAll (n : ℕ) (m m' : List ℕ) : Type 0 where

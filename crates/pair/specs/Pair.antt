@@ -2,7 +2,6 @@
 -- An item is a number below n: a net end, or a net. It stands at the FPGA `fpga k`.
 use Rattle.std.specs.Prelude.{◌≡◌, List, ℕ, ◌+◌, ◌%◌, ◌≤◌, ◌<◌, eqb, length}
 use Rattle.laws.specs.Sum.{sum, when}
-use Rattle.laws.specs.Part.{part, Kept}
 use Rattle.laws.specs.Row.{at}
 use Rattle.laws.specs.Matching.{is, Perfect, Alternates}
 use Rattle.scratch.specs.Scratch.{region}
@@ -29,11 +28,10 @@ pub record Items (fpga : ℕ → ℕ) (n : ℕ) : Type 0 where
   pub even : n % 2 ≡ 0
   pub known : (k : ℕ) → k < n → fpga k < fpga_count
 
--- their FPGAs stand in s from `fpgas` on, in front of the place for the mates
-pub record ItemsIn (s : List ℕ) (fpgas mates n : ℕ) : Type 0 where
-  pub items : Items (at (part s fpgas n)) n
-  pub order : fpgas + n ≤ mates
-  pub fits : mates + n ≤ length s
+-- fpgas has their FPGAs, and there is room for as many mates
+pub record ItemsIn (fpgas mates : List ℕ) : Type 0 where
+  pub items : Items (at fpgas) (length fpgas)
+  pub long : length mates ≡ length fpgas
 
 -- m pairs the items, and with them those at each FPGA and all of them are split evenly
 pub record Paired (fpga : ℕ → ℕ) (n : ℕ) (m : List ℕ) : Type 0 where
@@ -41,7 +39,7 @@ pub record Paired (fpga : ℕ → ℕ) (n : ℕ) (m : List ℕ) : Type 0 where
   pub fair : (x : ℕ → ℕ) → Alternates n (at m) x → (v : ℕ) → v < fpga_count → Near (count fpga x v 0 n) (count fpga x v 1 n)
   pub level : (x : ℕ → ℕ) → Alternates n (at m) x → sum (is x 0) n ≡ sum (is x 1) n
 
--- s₀ has become s: the mates are written, and nothing else
-pub record Pairing (s₀ s : List ℕ) (fpgas mates n : ℕ) : Type 0 where
-  pub paired : Paired (at (part s₀ fpgas n)) n (part s mates n)
-  pub kept : Kept s₀ s mates n
+-- the mates pair the items that stand at fpgas
+pub record Pairing (fpgas mates : List ℕ) : Type 0 where
+  pub paired : Paired (at fpgas) (length fpgas) mates
+  pub long : length mates ≡ length fpgas

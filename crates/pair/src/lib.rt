@@ -2,76 +2,70 @@
 #![tactic(auto)]
 
 ghost use Rattle.std.specs.Prelude.{◌≡◌, ◌<◌, length};
+ghost use Rattle.laws.specs.Row.{at};
 ghost use Rattle.pair.specs.Pair.{ItemsIn, Pairing};
-ghost use Rattle.pair.specs.Making.{linked, Blank, Placed, LeftWaiting, PairsAll};
-
-use scratch::fill;
-use words::number::wide;
+ghost use Rattle.pair.specs.Making.{linked, Blank, PairedUpTo, LeftWaiting, PairsAll};
 
 // The FPGAs of the largest board, and one more for a dummy net.
 const FPGAS: usize = 257;
-// No item has this number, so that it says of an item that it is free.
+// No item has this number, so that it says of an item that it is free: lent memory holds plain numbers.
 const NO_MATE: u16 = 65535;
 
 // Items i and j become mates.
-fn link(mate: &mut [u16], i: u16, j: u16)
-    requires { (i < length mate.old) × (j < length mate.old) }
-    ensures { mate.new ≡ linked mate.old i j }
+fn link(mates: &mut [u16], i: u16, j: u16)
+    requires { (i < length mates.old) × (j < length mates.old) }
+    ensures { mates.new ≡ linked mates.old i j }
 {
-    mate[i as usize] = j;
-    mate[j as usize] = i;
+    mates[i as usize] = j;
+    mates[j as usize] = i;
 }
 
-// Pairs items of one FPGA, and hands back what waits at each FPGA: 0 for nothing, j + 1 for item j.
-fn gather(s: &mut [u16], fpgas: usize, mates: usize, n: usize) -> [u16; FPGAS]
-    requires { Blank s.old fpgas mates n }
-    ensures { Placed s.old s.new fpgas mates n result n }
+// Pairs items of one FPGA, and hands back the item that waits at each FPGA.
+fn gather(fpgas: &[u16], mates: &mut [u16]) -> [Option<u16>; FPGAS]
+    requires { Blank fpgas.now mates.old }
+    ensures { PairedUpTo (at fpgas.now) (length fpgas.now) mates.new result (length fpgas.now) }
 {
-    let mut wait = [0u16; FPGAS];
-    let mut i = 0;
-    while i < n {
-        let v = wide(s[fpgas + i]);
-        let w = wait[v];
+    let mut wait = [None; FPGAS];
+    for (i, fpga) in fpgas.iter().enumerate() {
+        let v = *fpga as usize;
         let here = i as u16;
-        i += 1;
-        if w == 0 {
-            wait[v] = here + 1;
-        } else {
-            link(&mut s[mates..mates + n], here, w - 1);
-            wait[v] = 0;
+        match wait[v] {
+            None => wait[v] = Some(here),
+            Some(j) => {
+                link(mates, here, j);
+                wait[v] = None;
+            }
         }
     }
     wait
 }
 
 // Pairs the items that wait with each other: their number is even, so that none is left.
-fn sweep(mate: &mut [u16], wait: &[u16; FPGAS])
-    requires { LeftWaiting (length mate.old) mate.old wait.now }
-    ensures { PairsAll (length mate.old) mate.old mate.new }
+fn sweep(wait: &[Option<u16>; FPGAS], mates: &mut [u16])
+    requires { LeftWaiting (length mates.old) mates.old wait.now }
+    ensures { PairsAll (length mates.old) mates.old mates.new }
 {
-    let mut carry: u16 = 0;
-    let mut v = 0;
-    while v < FPGAS {
-        let w = wait[v];
-        v += 1;
-        if w != 0 {
-            if carry == 0 {
-                carry = w;
-            } else {
-                link(mate, carry - 1, w - 1);
-                carry = 0;
+    let mut carry = None;
+    for w in wait {
+        if let Some(j) = *w {
+            match carry {
+                None => carry = Some(j),
+                Some(i) => {
+                    link(mates, i, j);
+                    carry = None;
+                }
             }
         }
     }
 }
 
-// Pairs n items so that each FPGA has at most one item whose mate stands elsewhere.
-// The items' FPGAs stand at s[fpgas..fpgas + n], and the mates are written to s[mates..mates + n].
-pub fn pair(s: &mut [u16], fpgas: usize, mates: usize, n: usize)
-    requires { ItemsIn s.old fpgas mates n }
-    ensures { Pairing s.old s.new fpgas mates n }
+// Pairs the items so that each FPGA has at most one item whose mate stands elsewhere.
+// Item k stands at FPGA fpgas[k], and its mate is written to mates[k].
+pub fn pair(fpgas: &[u16], mates: &mut [u16])
+    requires { ItemsIn fpgas.now mates.old }
+    ensures { Pairing fpgas.now mates.new }
 {
-    fill(&mut s[mates..mates + n], NO_MATE);
-    let wait = gather(s, fpgas, mates, n);
-    sweep(&mut s[mates..mates + n], &wait);
+    mates.fill(NO_MATE);
+    let wait = gather(fpgas, mates);
+    sweep(&wait, mates);
 }

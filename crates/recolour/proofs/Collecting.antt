@@ -4,14 +4,19 @@ use mathlib.Core.Path.{◌≡◌, refl, ap, sym, subst, ◌∙◌}
 use mathlib.Core.Bool.{Bool, true, false, false≢true}
 use mathlib.Core.Logic.{◌≢◌}
 use mathlib.Core.List.{List}
-use Prim.Native.Nat.{ℕ, ◌+◌, ◌≤◌, ◌<◌}
+use Prim.Native.Nat.{ℕ, zero, suc, ◌+◌, ◌≤◌, ◌<◌}
 use native.Mathlib.Omega.{arith}
-use lib.ListN.{length, drop, set, length-set}
+use lib.ListN.{length, take, drop, set, length-set}
+use Rattle.std.specs.List.{count_by}
+use Rattle.std.proofs.lemmas.List.Sums.{count_by_more_yes, count_by_more_no}
+use Rattle.std.proofs.Common.{add-one}
 use lib.Seq.{get_or-set_same, get_or-set_other, drop-set-lt}
 use borrow.Author.Count.{below_more}
+use Rattle.laws.proofs.Cases.{by_test}
 use Rattle.laws.proofs.Rank.{rank_none, rank_in, rank_out, rank_less}
+use Rattle.board.specs.Rule.{on_two_test}
 use Rattle.job.specs.Job.{first_in, second_in}
-use Rattle.job.specs.declared.Head.{Head}
+use Rattle.job.specs.declared.Job.{Job}
 use Rattle.job.specs.Check.{Joins}
 use Rattle.scratch.specs.Scratch.{scratch_long}
 use Rattle.split.specs.Split.{first_end, second_end}
@@ -50,14 +55,20 @@ module _ (plan : List ℕ) (x y : ℕ) where
     pub count_skip : r ≡ false → CountedOn plan x y (i + 1) e
     count_skip f = record { is = c.is ∙ sym (rank_out (taken plan x y) i (sym on ∙ f)); at_most = omega (arith, c.at_most) }
 
-  pub count_all : (i e n : ℕ) → CountedOn plan x y i e → i ≤ n → n ≤ i → CountedOn plan x y n e
-  count_all i e n c l g = let q : i ≡ n = omega arith in rw q at c
+  -- as a count over the list
+  pub count_first : (n : ℕ) → n ≤ length plan → CountedOn plan x y n (count_by (on_two_test x y) (take n plan))
+  count_first zero l = count_none
+  count_first (suc n) l =
+      let before = count_first n (omega arith) in
+      by_test (taken plan x y n)
+      (λ t. let e = count_by_more_yes (on_two_test x y) plan n 0 (omega arith) t in rw (← add-one n, e) (count_more n _ before true (sym t) refl))
+      (λ f. let e = count_by_more_no (on_two_test x y) plan n 0 (omega arith) f in rw (← add-one n, e) (count_skip n _ before false (sym f) refl))
 
   -- a net that is taken has its place in front of those behind it
   pub place_less : (i e j : ℕ) → CountedOn plan x y i e → j < i → taken plan x y j ≡ true → place plan x y j < e
   place_less i e j c l t = omega (arith, c.is, rank_less (taken plan x y) j i l t)
 
-module _ (job : List ℕ) (b : Head) (plan : List ℕ) (x y : ℕ) (s₀ : List ℕ) (k : ℕ) (room : RoomFor job b plan x y s₀ k) where
+module _ (job : Job) (plan : List ℕ) (x y : ℕ) (s₀ : List ℕ) (k : ℕ) (room : RoomFor job plan x y s₀ k) where
   pub collect_none : Collected job plan x y k s₀ s₀ 0 0
   collect_none =
       record {
@@ -69,13 +80,13 @@ module _ (job : List ℕ) (b : Head) (plan : List ℕ) (x y : ℕ) (s₀ : List 
         beyond = refl;
       }
 
-  module _ (s : List ℕ) (i e : ℕ) (c : Collected job plan x y k s₀ s i e) (l : i < b.n) (r : Bool) (on : r ≡ taken plan x y i) where
+  module _ (s : List ℕ) (i e : ℕ) (c : Collected job plan x y k s₀ s i e) (l : i < job.head.n) (r : Bool) (on : r ≡ taken plan x y i) where
     pub collect_skip : r ≡ false → Collected job plan x y k s₀ s (i + 1) e
     collect_skip f =
         record {
           counted = count_skip plan x y i e c.counted r on f;
-          first = below_more (λ j. taken plan x y j ≡ true → first_end s (place plan x y j) ≡ first_in job j) i c.first (λ t. absurd (false≢true (sym f ∙ on ∙ t)));
-          second = below_more (λ j. taken plan x y j ≡ true → second_end s k (place plan x y j) ≡ second_in job j) i c.second (λ t. absurd (false≢true (sym f ∙ on ∙ t)));
+          first = below_more (λ j. taken plan x y j ≡ true → first_end s (place plan x y j) ≡ first_in job.bytes.now j) i c.first (λ t. absurd (false≢true (sym f ∙ on ∙ t)));
+          second = below_more (λ j. taken plan x y j ≡ true → second_end s k (place plan x y j) ≡ second_in job.bytes.now j) i c.second (λ t. absurd (false≢true (sym f ∙ on ∙ t)));
           known = c.known;
           long = c.long;
           beyond = c.beyond;
@@ -84,11 +95,11 @@ module _ (job : List ℕ) (b : Head) (plan : List ℕ) (x y : ℕ) (s₀ : List 
     pub in_room : r ≡ true → Places s k e
     in_room t =
         record {
-          one_of = omega (arith, c.counted.is, room.enough, rank_less (taken plan x y) i b.n l (sym on ∙ t));
+          one_of = omega (arith, c.counted.is, room.enough, rank_less (taken plan x y) i job.head.n l (sym on ∙ t));
           all = omega (arith, c.long, room.scratch, room.small);
         }
 
-    pub collect_more : r ≡ true → (v w : ℕ) → v ≡ first_in job i → w ≡ second_in job i → (s' : List ℕ) → s' ≡ with_ends s k e v w
+    pub collect_more : r ≡ true → (v w : ℕ) → v ≡ first_in job.bytes.now i → w ≡ second_in job.bytes.now i → (s' : List ℕ) → s' ≡ with_ends s k e v w
         → Collected job plan x y k s₀ s' (i + 1) (e + 1)
     collect_more t v w ev ew s' eq = rw eq go
       where
@@ -104,28 +115,28 @@ module _ (job : List ℕ) (b : Head) (plan : List ℕ) (x y : ℕ) (s₀ : List 
         before : (j : ℕ) → j < i → taken plan x y j ≡ true → place plan x y j < e
         before j q p = place_less plan x y i e j c.counted q p
 
-        joins : Joins b.f (first_in job i) (second_in job i)
-        joins = room.passed.nets i l
+        joins : Joins job.head.f (first_in job.bytes.now i) (second_in job.bytes.now i)
+        joins = job.well_formed.nets i l
 
         go : Collected job plan x y k s₀ new (i + 1) (e + 1)
         go =
             record {
               counted = count_more plan x y i e c.counted r on t;
-              first = below_more (λ j. taken plan x y j ≡ true → first_end new (place plan x y j) ≡ first_in job j) i
+              first = below_more (λ j. taken plan x y j ≡ true → first_end new (place plan x y j) ≡ first_in job.bytes.now j) i
                   (λ j q p. (still (place plan x y j) (before j q p)).0 ∙ c.first j q p)
                   (λ p. ap (first_end new) (sym c.counted.is) ∙ here.0 ∙ ev);
-              second = below_more (λ j. taken plan x y j ≡ true → second_end new k (place plan x y j) ≡ second_in job j) i
+              second = below_more (λ j. taken plan x y j ≡ true → second_end new k (place plan x y j) ≡ second_in job.bytes.now j) i
                   (λ j q p. (still (place plan x y j) (before j q p)).1 ∙ c.second j q p)
                   (λ p. ap (second_end new k) (sym c.counted.is) ∙ here.1 ∙ ew);
               known = below_more (λ d. (first_end new d < nowhere) × (second_end new k d < nowhere)) e
                   (λ d q. (omega (arith, (still d q).0, (c.known d q).0), omega (arith, (still d q).1, (c.known d q).1)))
-                  (omega (arith, here.0, ev, joins.first_below, room.passed.ranged.f_high), omega (arith, here.1, ew, joins.second_below, room.passed.ranged.f_high));
+                  (omega (arith, here.0, ev, joins.first_below, job.well_formed.ranged.f_high), omega (arith, here.1, ew, joins.second_below, job.well_formed.ranged.f_high));
               long = ends_long s k e v w (in_room t) ∙ c.long;
               beyond = ends_beyond s k e v w (in_room t) scratch_long (omega (arith, room.small)) ∙ c.beyond;
             }
 
-  pub collect_all : (s : List ℕ) (i e : ℕ) → Collected job plan x y k s₀ s i e → i ≤ b.n → b.n ≤ i
-      → Collected job plan x y k s₀ s b.n (place plan x y b.n)
+  pub collect_all : (s : List ℕ) (i e : ℕ) → Collected job plan x y k s₀ s i e → i ≤ job.head.n → job.head.n ≤ i
+      → Collected job plan x y k s₀ s job.head.n (place plan x y job.head.n)
   collect_all s i e c l g =
-      let q : i ≡ b.n = omega arith in
-      subst (λ (d : ℕ). Collected job plan x y k s₀ s b.n d) (rw q at c.counted.is) (rw q at c)
+      let q : i ≡ job.head.n = omega arith in
+      subst (λ (d : ℕ). Collected job plan x y k s₀ s job.head.n d) (rw q at c.counted.is) (rw q at c)

@@ -1,20 +1,20 @@
 -- Writing the labels back: one net that is on x or y, and one that is not.
 -- Assumes nothing.
-use mathlib.Core.Path.{◌≡◌, refl, ap, sym, subst, ◌∙◌}
+use mathlib.Core.Path.{◌≡◌, refl, ap, sym, ◌∙◌}
 use mathlib.Core.Bool.{Bool, true, false, false≢true}
 use mathlib.Core.List.{List}
 use Prim.Native.Nat.{ℕ, ◌+◌, ◌≤◌, ◌<◌}
 use native.Mathlib.Omega.{arith}
-use lib.ListN.{set, length-set}
+use lib.ListN.{length, set, length-set}
 use lib.Seq.{get_or-set_same, get_or-set_other, drop-set-lt}
 use borrow.Author.Count.{below_more}
 use Rattle.laws.specs.Row.{at}
 use Rattle.board.specs.Rule.{on_two_test}
 use Rattle.split.specs.Split.{label_of}
-use Rattle.recolour.specs.Steps.{taken, place, label_for_y, crossbar_by, Labelled, WrittenBack}
+use Rattle.recolour.specs.Steps.{taken, place, crossbar_by, WrittenBack}
 use Rattle.recolour.proofs.Collecting.{count_none, count_more, count_skip}
 
-module _ (plan₀ : List ℕ) (n x y : ℕ) (s : List ℕ) (mark items : ℕ) (asked : Labelled plan₀ n s items) where
+module _ (plan₀ : List ℕ) (n x y : ℕ) (s : List ℕ) (mark : ℕ) (every_net : n ≤ length plan₀) where
   pub write_none : WrittenBack plan₀ plan₀ n x y s mark 0 0
   write_none =
       record {
@@ -48,7 +48,7 @@ module _ (plan₀ : List ℕ) (n x y : ℕ) (s : List ℕ) (mark items : ℕ) (a
           counted = count_more plan₀ x y i e c.counted r on t;
           put = below_more (λ j. taken plan₀ x y j ≡ true → at new j ≡ crossbar_by x y mark (label_of s (place plan₀ x y j))) i
               (λ j q p. other j (omega arith) ∙ c.put j q p)
-              (λ p. get_or-set_same plan i z 0 (omega (arith, c.long, asked.every_net)) ∙ ez ∙ ap (λ (d : ℕ). crossbar_by x y mark (label_of s d)) c.counted.is);
+              (λ p. get_or-set_same plan i z 0 (omega (arith, c.long, every_net)) ∙ ez ∙ ap (λ (d : ℕ). crossbar_by x y mark (label_of s d)) c.counted.is);
           stay = below_more (λ j. taken plan₀ x y j ≡ false → at new j ≡ at plan₀ j) i (λ j q p. other j (omega arith) ∙ c.stay j q p) (λ p. absurd (false≢true (sym p ∙ sym on ∙ t)));
           ahead = λ j q. other j (omega arith) ∙ c.ahead j (omega arith);
           long = length-set plan i z ∙ c.long;
@@ -60,9 +60,3 @@ module _ (plan₀ : List ℕ) (n x y : ℕ) (s : List ℕ) (mark items : ℕ) (a
 
         other : (j : ℕ) → (j ≡ i → ⊥) → at new j ≡ at plan j
         other j ne = get_or-set_other plan i j z 0 ne
-
-  pub write_all : (plan : List ℕ) (i e : ℕ) → WrittenBack plan₀ plan n x y s mark i e → i ≤ n → n ≤ i → (count : ℕ) → mark ≡ label_for_y s count
-      → WrittenBack plan₀ plan n x y s (label_for_y s count) n (place plan₀ x y n)
-  write_all plan i e c l g count em =
-      let q : i ≡ n = omega arith in
-      subst (λ (d : ℕ). WrittenBack plan₀ plan n x y s (label_for_y s count) n d) (rw q at c.counted.is) (rw (q, em) at c)

@@ -3,8 +3,7 @@ use Rattle.std.specs.Prelude.{◌≡◌, Bool, true, false, cond, List, ℕ, ◌
 use Rattle.laws.specs.Rank.{rank}
 use Rattle.laws.specs.Row.{at}
 use Rattle.job.specs.Job.{first_in, second_in}
-use Rattle.job.specs.Check.{WellFormed}
-use Rattle.job.specs.declared.Head.{Head}
+use Rattle.job.specs.declared.Job.{Job}
 use Rattle.board.specs.Rule.{on_two_test}
 use Rattle.scratch.specs.Scratch.{most_nets, scratch_long}
 use Rattle.split.specs.Split.{first_end, second_end, label_of, NetsIn}
@@ -40,25 +39,24 @@ pub record Places (s : List ℕ) (k e : ℕ) : Type 0 where
   pub all : k + k ≤ length s
 
 -- room for the ends of all nets that are taken
-pub record RoomFor (job : List ℕ) (h : Head) (plan : List ℕ) (x y : ℕ) (s : List ℕ) (k : ℕ) : Type 0 where
-  pub passed : WellFormed job h
-  pub every_net : h.n ≤ length plan
-  pub enough : place plan x y h.n ≤ k
+pub record RoomFor (job : Job) (plan : List ℕ) (x y : ℕ) (s : List ℕ) (k : ℕ) : Type 0 where
+  pub every_net : job.head.n ≤ length plan
+  pub enough : place plan x y job.head.n ≤ k
   pub small : k ≤ most_nets
   pub scratch : scratch_long ≤ length s
 
 -- the nets below i that are taken, e of them, have their ends in s; s₀ has become s
-pub record Collected (job plan : List ℕ) (x y k : ℕ) (s₀ s : List ℕ) (i e : ℕ) : Type 0 where
+pub record Collected (job : Job) (plan : List ℕ) (x y k : ℕ) (s₀ s : List ℕ) (i e : ℕ) : Type 0 where
   pub counted : CountedOn plan x y i e
-  pub first : (j : ℕ) → j < i → taken plan x y j ≡ true → first_end s (place plan x y j) ≡ first_in job j
-  pub second : (j : ℕ) → j < i → taken plan x y j ≡ true → second_end s k (place plan x y j) ≡ second_in job j
+  pub first : (j : ℕ) → j < i → taken plan x y j ≡ true → first_end s (place plan x y j) ≡ first_in job.bytes.now j
+  pub second : (j : ℕ) → j < i → taken plan x y j ≡ true → second_end s k (place plan x y j) ≡ second_in job.bytes.now j
   pub known : (d : ℕ) → d < e → (first_end s d < nowhere) × (second_end s k d < nowhere)
   pub long : length s ≡ length s₀
   pub beyond : drop scratch_long s ≡ drop scratch_long s₀
 
 -- all nets that are taken are collected, and the dummy stands behind them where their number is odd
-pub record CollectedAll (job : List ℕ) (h : Head) (plan : List ℕ) (x y : ℕ) (s₀ s : List ℕ) (count : ℕ) : Type 0 where
-  pub collected : Collected job plan x y (evened count) s₀ s h.n count
+pub record CollectedAll (job : Job) (plan : List ℕ) (x y : ℕ) (s₀ s : List ℕ) (count : ℕ) : Type 0 where
+  pub collected : Collected job plan x y (evened count) s₀ s job.head.n count
   pub nets : NetsIn s (evened count)
   pub dummy : count < evened count → (first_end s count ≡ nowhere) × (second_end s (evened count) count ≡ nowhere)
 
@@ -70,10 +68,10 @@ label_for_y s count = cond (ltb count (evened count)) (label_of s count) 1
 unfoldable pub crossbar_by : ℕ → ℕ → ℕ → ℕ → ℕ
 crossbar_by x y mark l = cond (eqb l mark) y x
 
--- an assignment of n nets, and room for the labels of `count` of them
-pub record Labelled (plan : List ℕ) (n : ℕ) (s : List ℕ) (count : ℕ) : Type 0 where
-  pub every_net : n ≤ length plan
-  pub small : (n ≤ most_nets) × (count ≤ most_nets)
+-- an assignment of the job's nets, and room for the labels of `count` of them
+pub record Labelled (job : Job) (plan s : List ℕ) (count : ℕ) : Type 0 where
+  pub every_net : job.head.n ≤ length plan
+  pub small : count ≤ most_nets
   pub scratch : scratch_long ≤ length s
 
 -- the nets below i that are taken, e of them, are put on x or y by their labels; plan₀ has become plan

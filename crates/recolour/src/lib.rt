@@ -15,18 +15,34 @@ ghost use Rattle.scratch.specs.Scratch.{most_nets, scratch_long};
 ghost use Rattle.recolour.specs.Recolour.{RecolourAsked, RecolouredIn};
 ghost use Rattle.recolour.specs.Steps.{place, CountedOn, evened, with_ends, Places, RoomFor, Collected, CollectedAll, label_for_y, crossbar_by, Labelled, WrittenBack};
 
-use job::Head;
-use job::read::{first_end, second_end};
+use job::Job;
 use scratch::LABELS;
 use split::split;
+use words::Crossbar;
 
-// The FPGA of both ends of the dummy: no board has it.
+// The FPGA of both ends of the dummy: no board has it. A number and no `Option`, as the lent scratch holds plain numbers.
 const NOWHERE: u16 = 256;
 
-fn on_two(crossbar: u16, x: u16, y: u16) -> bool
-    ensures { result ≡ on_two_test x y crossbar }
-{
-    crossbar == x || crossbar == y
+// The two crossbars, as an assignment writes them.
+#[derive(Clone, Copy)]
+struct Two {
+    x: u16,
+    y: u16,
+}
+
+impl Two {
+    fn holds(self, crossbar: u16) -> bool
+        ensures { result ≡ on_two_test self.x self.y crossbar }
+    {
+        crossbar == self.x || crossbar == self.y
+    }
+
+    // The crossbar of a label, where `mark` is the label for y.
+    fn by_label(self, mark: u16, label: u16) -> u16
+        ensures { result ≡ crossbar_by self.x self.y mark label }
+    {
+        if label == mark { self.y } else { self.x }
+    }
 }
 
 // With a dummy net, where the number of nets is odd.
@@ -37,24 +53,16 @@ fn evened(count: usize) -> usize
     count + count % 2
 }
 
-// How many of the n nets are on x or y.
-fn count_on(plan: &[u16], n: usize, x: u16, y: u16) -> usize
-    requires { n ≤ length plan.now }
-    ensures { CountedOn plan.now x y n result }
+// How many nets are on x or y.
+fn count_on(job: &Job, plan: &[u16], two: Two) -> usize
+    requires { job.now.head.n ≤ length plan.now }
+    ensures { CountedOn plan.now two.x two.y job.now.head.n result }
 {
-    let mut count = 0;
-    let mut i = 0;
-    while i < n {
-        let on = on_two(plan[i], x, y);
-        i += 1;
-        if on {
-            count += 1;
-        }
-    }
-    count
+    plan[..job.head.n].iter().filter(|x| two.holds(**x)).count()
 }
 
 // The ends of the e-th of k nets, put down as `split` wants them: the first ends in front, the second ends behind.
+// By their places in the scratch, since the contract of `split` says where ends and labels stand.
 fn put_ends(s: &mut [u16], k: usize, e: usize, v: u16, w: u16)
     requires { Places s.old k e }
     ensures { s.new ≡ with_ends s.old k e v w }
@@ -64,85 +72,70 @@ fn put_ends(s: &mut [u16], k: usize, e: usize, v: u16, w: u16)
 }
 
 // The ends of all nets on x or y, in net order, among those of k nets.
-fn collect(job: &[u8], head: Head, plan: &[u16], x: u16, y: u16, s: &mut [u16], k: usize)
-    requires { RoomFor job.now head plan.now x y s.old k }
-    ensures { Collected job.now plan.now x y k s.old s.new head.n (place plan.now x y head.n) }
+fn collect(job: &Job, plan: &[u16], two: Two, s: &mut [u16], k: usize)
+    requires { RoomFor job.now plan.now two.x two.y s.old k }
+    ensures { Collected job.now plan.now two.x two.y k s.old s.new job.now.head.n (place plan.now two.x two.y job.now.head.n) }
 {
-    let n = head.n;
-    let start = head.start;
+    // How many nets so far are on x or y.
     let mut e = 0;
-    let mut i = 0;
-    while i < n {
-        let net = i;
-        i += 1;
-        if on_two(plan[net], x, y) {
-            let v = first_end(job, start, net) as u16;
-            let w = second_end(job, start, net) as u16;
-            put_ends(s, k, e, v, w);
+    for net in 0..job.head.n {
+        if two.holds(plan[net]) {
+            let (v, w) = job.ends(net);
+            put_ends(s, k, e, v as u16, w as u16);
             e += 1;
         }
     }
 }
 
 // Collects the nets on x or y for `split`, with the dummy where it is needed, and says how many they are without it.
-fn gather(job: &[u8], head: Head, plan: &[u16], x: u16, y: u16, s: &mut [u16]) -> usize
-    requires { RecolourAsked job.now head plan.now x y s.old }
-    ensures { CollectedAll job.now head plan.now x y s.old s.new result }
+fn gather(job: &Job, plan: &[u16], two: Two, s: &mut [u16]) -> usize
+    requires { RecolourAsked job.now plan.now two.x two.y s.old }
+    ensures { CollectedAll job.now plan.now two.x two.y s.old s.new result }
 {
-    let count = count_on(plan, head.n, x, y);
+    let count = count_on(job, plan, two);
     let k = evened(count);
-    collect(job, head, plan, x, y, s, k);
-    if count == k {
-        return count;
+    collect(job, plan, two, s, k);
+    if count < k {
+        put_ends(s, k, count, NOWHERE, NOWHERE);
     }
-    put_ends(s, k, count, NOWHERE, NOWHERE);
     count
 }
 
-// The label of the nets that are put on y.
+// The label of the nets that are put on y. A number, as the lent scratch holds it.
 fn label_for_y(s: &[u16], count: usize) -> u16
     requires { (count ≤ most_nets) × (scratch_long ≤ length s.now) }
     ensures { result ≡ label_for_y s.now count }
 {
     if count < evened(count) {
-        return s[LABELS + count];
+        s[LABELS + count]
+    } else {
+        1
     }
-    1
-}
-
-fn crossbar_by(x: u16, y: u16, mark: u16, label: u16) -> u16
-    ensures { result ≡ crossbar_by x y mark label }
-{
-    if label == mark {
-        return y;
-    }
-    x
 }
 
 // Puts each net that is on x or y on the crossbar of its label: the e-th of them in net order has the e-th label of `count`.
-fn write_back(plan: &mut [u16], n: usize, x: u16, y: u16, s: &[u16], count: usize)
-    requires { Labelled plan.old n s.now count }
-    ensures { WrittenBack plan.old plan.new n x y s.now (label_for_y s.now count) n (place plan.old x y n) }
+fn write_back(job: &Job, plan: &mut [u16], two: Two, s: &[u16], count: usize)
+    requires { Labelled job.now plan.old s.now count }
+    ensures { let n = job.now.head.n in WrittenBack plan.old plan.new n two.x two.y s.now (label_for_y s.now count) n (place plan.old two.x two.y n) }
 {
     let mark = label_for_y(s, count);
+    // How many nets so far are on x or y.
     let mut e = 0;
-    let mut i = 0;
-    while i < n {
-        let net = i;
-        i += 1;
-        if on_two(plan[net], x, y) {
-            plan[net] = crossbar_by(x, y, mark, s[LABELS + e]);
+    for net in 0..job.head.n {
+        if two.holds(plan[net]) {
+            plan[net] = two.by_label(mark, s[LABELS + e]);
             e += 1;
         }
     }
 }
 
-// Recolours the nets on x and y, which document 01 calls A and B, in the assignment of the first n numbers of `plan`.
-pub fn recolour(job: &[u8], head: Head, plan: &mut [u16], x: u16, y: u16, s: &mut [u16])
-    requires { RecolourAsked job.now head plan.old x y s.old }
-    ensures { RecolouredIn job.now head plan.old plan.new x y s.old s.new }
+// Recolours the nets on x and y, which document 01 calls A and B, in the assignment of the job's nets at the front of `plan`.
+pub fn recolour(job: &Job, plan: &mut [u16], x: Crossbar, y: Crossbar, s: &mut [u16])
+    requires { RecolourAsked job.now plan.old x.0 y.0 s.old }
+    ensures { RecolouredIn job.now plan.old plan.new x.0 y.0 s.old s.new }
 {
-    let count = gather(job, head, plan, x, y, s);
+    let two = Two { x: x.0, y: y.0 };
+    let count = gather(job, plan, two, s);
     split(s, evened(count));
-    write_back(plan, head.n, x, y, s, count);
+    write_back(job, plan, two, s, count);
 }

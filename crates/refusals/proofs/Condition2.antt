@@ -1,5 +1,6 @@
 -- Condition 2: a job is refused on a degree above the limit and on nothing else, and then no assignment is legal; for even m none is within m.
 -- Assumes nothing.
+use Rattle.words.specs.declared.Reason.TheVariants as reason
 use mathlib.Core.Path.{◌≡◌, ap, sym, subst, ◌∙◌}
 use mathlib.Core.List.{List}
 use mathlib.Core.Logic.{◌↔◌}
@@ -13,7 +14,7 @@ use Rattle.laws.proofs.Test.{ltb_says}
 use Rattle.laws.proofs.Cases.{by_test}
 use Rattle.laws.proofs.FirstWhere.{lowest_is_first, somewhere_says}
 use Rattle.words.specs.declared.Refusal.{Refusal}
-use Rattle.words.specs.declared.Verdict.TheVariants.{Done, Refused}
+use Rattle.std.specs.Prelude.{Ok, Err}
 use Rattle.words.specs.Verdict.{refuse, at_fpga}
 use Rattle.words.proofs.Order.{then_done, refuses, passes}
 use Rattle.job.specs.Job.{m_in, n_in, job_in, wired_in}
@@ -42,53 +43,53 @@ module _ (J : Netlist) where
   over_says v = ltb_says (limit J v) (degree J v)
 
   -- refused with 12 at the lowest FPGA with a degree above the limit
-  pub degree_refusal : (w : Lowest (λ v. limit J v < degree J v) J.f) → degree_verdict J ≡ refuse 12 (at_fpga w.at)
+  pub degree_refusal : (w : Lowest (λ v. limit J v < degree J v) J.f) → degree_verdict J ≡ refuse reason.Degree (at_fpga w.at)
   degree_refusal w =
-      degree_lowest J ∙ refuses (somewhere (over J) J.f) 12 _ ((somewhere_says (over J) over_says J.f).1 w)
-      ∙ ap (λ (v : ℕ). refuse 12 (at_fpga v)) (lowest_is_first (over J) over_says J.f w)
+      degree_lowest J ∙ refuses (somewhere (over J) J.f) reason.Degree _ ((somewhere_says (over J) over_says J.f).1 w)
+      ∙ ap (λ (v : ℕ). refuse reason.Degree (at_fpga v)) (lowest_is_first (over J) over_says J.f w)
 
   -- and only so
-  pub degree_refused : (r : Refusal) → degree_verdict J ≡ Refused r → (w : Lowest (λ v. limit J v < degree J v) J.f) × (Refused r ≡ refuse 12 (at_fpga w.at))
+  pub degree_refused : (r : Refusal) → degree_verdict J ≡ Err r → (w : Lowest (λ v. limit J v < degree J v) J.f) × (Err r ≡ refuse reason.Degree (at_fpga w.at))
   degree_refused r e =
       by_test (somewhere (over J) J.f) (λ t. let w = (somewhere_says (over J) over_says J.f).0 t in (w, sym e ∙ degree_refusal w))
       (λ t.
-      let p = degree_lowest J ∙ passes (somewhere (over J) J.f) 12 _ t in
+      let p = degree_lowest J ∙ passes (somewhere (over J) J.f) reason.Degree _ t in
       let z : ◌≡◌ {A = ℕ} 0 1 = cc in
       absurd (omega arith))
 
   -- so a refusal on degree is never given where an assignment is legal
-  pub refused_not_legal : (r : Refusal) → degree_verdict J ≡ Refused r → (a : ℕ → ℕ) → InRange J a → Legal J a → ⊥
+  pub refused_not_legal : (r : Refusal) → degree_verdict J ≡ Err r → (a : ℕ → ℕ) → InRange J a → Legal J a → ⊥
   refused_not_legal r e a h = let w = (degree_refused r e).0 in no_assignment w.at w.below w.holds a h
 
 -- ---- the call: a sound job with room enough is refused on a degree above the limit and on nothing else
 
-module _ (job : List ℕ) (plan_length scratch_length : ℕ) (sound : job_verdict job ≡ Done) (nets : n_in job ≤ plan_length) (long : scratch_long ≤ scratch_length) where
+module _ (job : List ℕ) (plan_length scratch_length : ℕ) (sound : job_verdict job ≡ Ok tt) (nets : n_in job ≤ plan_length) (long : scratch_long ≤ scratch_length) where
   plan_by_degree : plan_verdict job plan_length scratch_length ≡ degree_verdict (job_in job)
   plan_by_degree = plan_is_checked job plan_length scratch_length sound (room_enough (n_in job) plan_length scratch_length nets long)
 
-  pub plan_accepted : (plan_verdict job plan_length scratch_length ≡ Done) ↔ WithinLimits (job_in job)
+  pub plan_accepted : (plan_verdict job plan_length scratch_length ≡ Ok tt) ↔ WithinLimits (job_in job)
   plan_accepted = (λ e. (degrees_say (job_in job)).0 (sym plan_by_degree ∙ e), λ w. plan_by_degree ∙ (degrees_say (job_in job)).1 w)
 
-  pub plan_refusal : (w : Lowest (λ v. limit (job_in job) v < degree (job_in job) v) (job_in job).f) → plan_verdict job plan_length scratch_length ≡ refuse 12 (at_fpga w.at)
+  pub plan_refusal : (w : Lowest (λ v. limit (job_in job) v < degree (job_in job) v) (job_in job).f) → plan_verdict job plan_length scratch_length ≡ refuse reason.Degree (at_fpga w.at)
   plan_refusal w = plan_by_degree ∙ degree_refusal (job_in job) w
 
-  pub plan_refused_only : (r : Refusal) → plan_verdict job plan_length scratch_length ≡ Refused r
-      → (w : Lowest (λ v. limit (job_in job) v < degree (job_in job) v) (job_in job).f) × (Refused r ≡ refuse 12 (at_fpga w.at))
+  pub plan_refused_only : (r : Refusal) → plan_verdict job plan_length scratch_length ≡ Err r
+      → (w : Lowest (λ v. limit (job_in job) v < degree (job_in job) v) (job_in job).f) × (Err r ≡ refuse reason.Degree (at_fpga w.at))
   plan_refused_only r e = degree_refused (job_in job) r (sym plan_by_degree ∙ e)
 
   -- whatever m is, none within the usable width
-  pub plan_refused_not_legal : (r : Refusal) → plan_verdict job plan_length scratch_length ≡ Refused r → (a : ℕ → ℕ) → InRange (job_in job) a → Legal (job_in job) a → ⊥
+  pub plan_refused_not_legal : (r : Refusal) → plan_verdict job plan_length scratch_length ≡ Err r → (a : ℕ → ℕ) → InRange (job_in job) a → Legal (job_in job) a → ⊥
   plan_refused_not_legal r e = refused_not_legal (job_in job) r (sym plan_by_degree ∙ e)
 
   -- for even m, none within m; for odd m there may be one (`three_refused_within`, crates/cases)
-  pub plan_refused_not_within : m_in job % 2 ≡ 0 → (r : Refusal) → plan_verdict job plan_length scratch_length ≡ Refused r
+  pub plan_refused_not_within : m_in job % 2 ≡ 0 → (r : Refusal) → plan_verdict job plan_length scratch_length ≡ Err r
       → (a : ℕ → ℕ) → InRange (wired_in job) a → Legal (wired_in job) a → ⊥
   plan_refused_not_within even r e a h z = plan_refused_not_legal r e a h (subst (λ (J : Netlist). Legal J a) (sym (even_wired job even)) z)
 
 -- ---- one round and finish: with a start in range nothing is refused
 
-pub round_accepted : (job plan : List ℕ) (scratch_length : ℕ) → job_verdict job ≡ Done → n_in job ≤ length plan → scratch_long ≤ scratch_length
-    → WithinLimits (job_in job) → InRange (job_in job) (at plan) → round_verdict job plan scratch_length ≡ Done
+pub round_accepted : (job plan : List ℕ) (scratch_length : ℕ) → job_verdict job ≡ Ok tt → n_in job ≤ length plan → scratch_long ≤ scratch_length
+    → WithinLimits (job_in job) → InRange (job_in job) (at plan) → round_verdict job plan scratch_length ≡ Ok tt
 unfolding round_verdict
 round_accepted job plan scratch_length sound nets long within ranged =
-    then_done _ _ ((plan_accepted job (length plan) scratch_length sound nets long).1 within) ((range_says (job_in job) (at plan) 13).1 ranged)
+    then_done _ _ ((plan_accepted job (length plan) scratch_length sound nets long).1 within) ((range_says (job_in job) (at plan) reason.Start).1 ranged)

@@ -1,7 +1,8 @@
 -- Refusals 11 to 13: too little lent memory, a degree above the limit, and a crossbar number that cannot be used (23 in a sheet).
+use Rattle.words.specs.declared.Reason.{Reason}
+use Rattle.words.specs.declared.Reason.TheVariants as reason
 use Rattle.std.specs.Prelude.{not, ℕ, ltb}
-use Rattle.words.specs.declared.Verdict.{Verdict}
-use Rattle.words.specs.Verdict.{refuse_if, too_short, ◌then◌, first_refusal, at_net, at_fpga}
+use Rattle.words.specs.Verdict.{Verdict, refuse_if, too_short, ◌then◌, first_refusal, at_net, at_fpga}
 use Rattle.board.specs.Netlist.{Netlist}
 use Rattle.board.specs.Board.{degree, limit, usable}
 use Rattle.scratch.specs.Scratch.{scratch_long}
@@ -14,8 +15,8 @@ room_verdict n plan_length scratch_length =
 
 -- 12, with the lowest FPGA whose degree is above its limit
 unfoldable pub degree_verdict : Netlist → Verdict
-degree_verdict J = first_refusal (λ v. refuse_if (ltb (limit J v) (degree J v)) 12 (at_fpga v)) J.f
+degree_verdict J = first_refusal (λ v. refuse_if (ltb (limit J v) (degree J v)) reason.Degree (at_fpga v)) J.f
 
--- refusal k, with the lowest net whose crossbar cannot be used
-unfoldable pub range_verdict : ℕ → Netlist → (ℕ → ℕ) → Verdict
+-- refused for this reason, with the lowest net whose crossbar cannot be used
+unfoldable pub range_verdict : Reason → Netlist → (ℕ → ℕ) → Verdict
 range_verdict k J a = first_refusal (λ i. refuse_if (not (usable J (a i))) k (at_net i)) J.n

@@ -1,48 +1,38 @@
 // The refusals of spare and headroom: of the job, then of the FPGAs asked about.
-ghost use Rattle.std.specs.Prelude.{◌≡◌};
-ghost use Rattle.refusals.specs.Asked.{fitting_of, asked_verdict, both_verdict};
+ghost use Rattle.std.specs.Prelude.{◌≡◌, IfOk};
+ghost use Rattle.words.specs.Verdict.{verdict_of};
+ghost use Rattle.refusals.specs.Asked.{fitting_verdict, asked_verdict, both_verdict};
 
 use crate::degrees::check_degrees;
-use job::Checked;
-use job::well_formed::{check_job, checked_by};
-use words::number::wide;
-use words::{Fpga, Place, Verdict, refuse};
+use job::Job;
+use job::well_formed::check_job;
+use words::{Fpga, Place, Reason, Refusal, Verdict, refuse_if};
 
 // Refusals 1 to 10, 27 and 12.
-pub fn check_fitting(job: &[u8]) -> Checked
-    ensures { result ≡ fitting_of job.now }
+#[tactic(auto, using(words::proofs::Order::then_refused, words::proofs::Order::then_next), unfolding(crate::specs::Asked::fitting_verdict))]
+pub fn check_fitting<'a>(job: &'a [u8]) -> Result<Job<'a>, Refusal>
+    ensures verdict { verdict_of result ≡ fitting_verdict job.now }
+    ensures bytes { IfOk result (λ checked. checked.bytes ≡ job.entry) }
 {
-    let checked = check_job(job);
-    let Checked::Passed(head) = checked else {
-        return checked;
-    };
-    checked_by(check_degrees(job, head), head)
+    let checked = check_job(job)?;
+    check_degrees(&checked)?;
+    Ok(checked)
 }
 
-// The refusal of this number, if the board does not have the FPGA asked about.
-pub fn check_asked(number: u16, f: usize, v: Fpga) -> Verdict
-    ensures { result ≡ asked_verdict number f v.0 }
+// Refused for this reason, if the board does not have the FPGA asked about.
+#[tactic(auto, unfolding(crate::specs::Asked::asked_verdict))]
+pub fn check_asked(reason: Reason, f: usize, v: Fpga) -> Verdict
+    ensures { result ≡ asked_verdict reason f v.0 }
 {
-    if f <= wide(v.0) {
-        return refuse(number, Place::Fpga(v));
-    }
-    Verdict::Done
+    refuse_if(f <= v.0 as usize, reason, Place::Fpga(v))
 }
 
 // Refusals 9, 27 and 10 of two.
+#[tactic(auto, using(words::proofs::Order::then_refused, words::proofs::Order::then_next), unfolding(crate::specs::Asked::both_verdict))]
 pub fn check_both(f: usize, v: Fpga, w: Fpga) -> Verdict
     ensures { result ≡ both_verdict f v.0 w.0 }
 {
-    let first = check_asked(9, f, v);
-    if let Verdict::Refused(_) = first {
-        return first;
-    }
-    let second = check_asked(27, f, w);
-    if let Verdict::Refused(_) = second {
-        return second;
-    }
-    if v.0 == w.0 {
-        return refuse(10, Place::Fpga(v));
-    }
-    Verdict::Done
+    check_asked(Reason::FirstEnd, f, v)?;
+    check_asked(Reason::SecondEnd, f, w)?;
+    refuse_if(v == w, Reason::SameEnd, Place::Fpga(v))
 }

@@ -7,6 +7,7 @@ use mathlib.Core.Logic.{◌↔◌}
 use mathlib.Core.List.{List}
 use Prim.Native.Nat.{ℕ}
 use native.Mathlib.Omega.{arith}
+use Rattle.std.specs.Prelude.{None, Some, Ok, Err}
 use Rattle.laws.specs.Row.{at}
 use Rattle.job.specs.Job.{job_in}
 use Rattle.board.specs.Netlist.{Netlist}
@@ -17,8 +18,7 @@ use Rattle.search.specs.Search.{over, search_of}
 use Rattle.search.proofs.Answers.{over-parts}
 use Rattle.round.specs.Round.{RoundStep, Chain, Finished}
 use Rattle.refusals.proofs.Starting.{ready}
-use Rattle.round.specs.declared.Round.{Round}
-use Rattle.round.specs.declared.Round.TheVariants.{Settled, Moved, Refused}
+use Rattle.round.specs.Answer.{Round}
 use Rattle.round.specs.OneRound.{Untouched, Accepted, OneRound}
 use Rattle.round.specs.Twice.{SameBeyond, RoundTwice, SameRound}
 use Rattle.round.proofs.Condition3.{round_not_legal, round_named}
@@ -76,16 +76,16 @@ module _ (job plan₀ plan plan' s₀ s s' : List ℕ) where
   untouched_twice one other = (one.plan_same ∙ sym other.plan_same, one.scratch_same ∙ sym other.scratch_same)
 
   twice : (r : Round) → OneRound job plan₀ plan s₀ s r → OneRound job plan₀ plan' s₀ s' r → RoundTwice r job plan₀ plan plan' s s'
-  twice Settled one other = (one.memory.0 ∙ sym other.memory.0, one.memory.1.scratch_zero ∙ sym other.memory.1.scratch_zero)
-  twice (Moved v A B) one other =
-      let start = ready job plan₀ s₀ (moved_says job plan₀ plan s₀ s v A B one).0 in
+  twice (Ok None) one other = (one.memory.0 ∙ sym other.memory.0, one.memory.1.scratch_zero ∙ sym other.memory.1.scratch_zero)
+  twice (Ok (Some o)) one other =
+      let start = ready job plan₀ s₀ (moved_says job plan₀ plan s₀ s o one).0 in
       record {
         same = accepted_twice one.memory.1 other.memory.1;
         elsewhere = λ i l a b. one.memory.0.moved.stay i l a b ∙ sym (other.memory.0.moved.stay i l a b);
         totals = round_totals_once (job_in job) (at plan₀) (at plan) (at plan') start.fitting.within start.in_range
-            (moved_round job plan₀ plan s₀ s v A B one) (moved_round job plan₀ plan' s₀ s' v A B other);
+            (moved_round job plan₀ plan s₀ s o one) (moved_round job plan₀ plan' s₀ s' o other);
       }
-  twice (Refused r) one other = untouched_twice one.memory other.memory
+  twice (Err r) one other = untouched_twice one.memory other.memory
 
   -- the answer is the same, and so is lent memory but for the nets that the round has moved
   pub round_once : (r r' : Round) → OneRound job plan₀ plan s₀ s r → OneRound job plan₀ plan' s₀ s' r' → SameRound job plan₀ plan plan' s s' r r'

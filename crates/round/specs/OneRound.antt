@@ -1,27 +1,23 @@
 -- One round as a call: its answer, and by the answer what becomes of the lent memory.
-use Rattle.std.specs.Prelude.{◌≡◌, List, ℕ, length, drop}
+use Rattle.std.specs.Prelude.{◌≡◌, List, ℕ, length, drop, Option, None, Some, Ok, Err}
 use Rattle.laws.specs.Row.{at}
-use Rattle.words.specs.declared.Verdict.{Verdict}
-use Rattle.words.specs.declared.Verdict.TheVariants as verdict
-use Rattle.job.specs.declared.Head.{Head}
+use Rattle.words.specs.Verdict.{Verdict, answer}
+use Rattle.job.specs.declared.Job.{Job}
 use Rattle.job.specs.Job.{n_in, job_in}
+use Rattle.job.specs.Board.{board_of}
 use Rattle.board.specs.Rule.{Recoloured}
 use Rattle.scratch.specs.Scratch.{scratch_long, cleared}
-use Rattle.search.specs.declared.Found.{Found}
-use Rattle.search.specs.declared.Found.TheVariants as found
+use Rattle.search.specs.declared.Over.{Over}
 use Rattle.search.specs.Search.{search_of}
 use Rattle.recolour.specs.Recolour.{RecolouredIn}
-use Rattle.round.specs.declared.Round.{Round}
-use Rattle.round.specs.declared.Round.TheVariants.{Settled, Moved, Refused}
 use Rattle.refusals.specs.Start.{round_verdict}
+use Rattle.round.specs.Answer.{Round}
 
 -- ---- the answer
 
 -- refused; or what the search names
-abbrev pub round_answer : Verdict → Found → Round
-round_answer (verdict.Refused r) found = Refused r
-round_answer verdict.Done found.Settled = Settled
-round_answer verdict.Done (found.Over v A B) = Moved v A B
+abbrev pub round_answer : Verdict → Option Over → Round
+round_answer v over = answer v over
 
 -- ---- the lent memory: plan₀ and s₀ have become plan and s
 
@@ -38,9 +34,9 @@ pub record Accepted (job plan₀ plan s₀ s : List ℕ) : Type 0 where
 
 -- by the answer: settled and refused leave the assignment as it was, and a round recolours A and B by the rule
 abbrev pub RoundMemory : Round → List ℕ → List ℕ → List ℕ → List ℕ → List ℕ → Type 0
-RoundMemory Settled job plan₀ plan s₀ s = (plan ≡ plan₀) × Accepted job plan₀ plan s₀ s
-RoundMemory (Moved v A B) job plan₀ plan s₀ s = Recoloured (job_in job) (at plan₀) (at plan) A.0 B.0 × Accepted job plan₀ plan s₀ s
-RoundMemory (Refused r) job plan₀ plan s₀ s = Untouched plan₀ plan s₀ s
+RoundMemory (Ok None) job plan₀ plan s₀ s = (plan ≡ plan₀) × Accepted job plan₀ plan s₀ s
+RoundMemory (Ok (Some over)) job plan₀ plan s₀ s = Recoloured (job_in job) (at plan₀) (at plan) over.crowded.0 over.room.0 × Accepted job plan₀ plan s₀ s
+RoundMemory (Err r) job plan₀ plan s₀ s = Untouched plan₀ plan s₀ s
 
 pub record OneRound (job plan₀ plan s₀ s : List ℕ) (r : Round) : Type 0 where
   pub answer : r ≡ round_answer (round_verdict job plan₀ (length s₀)) (search_of (job_in job) (at plan₀))
@@ -48,10 +44,10 @@ pub record OneRound (job plan₀ plan s₀ s : List ℕ) (r : Round) : Type 0 wh
 
 -- ---- the step inside a round or finish, which leaves its work in the scratch
 
-abbrev pub StepMemory : Found → List ℕ → Head → List ℕ → List ℕ → List ℕ → List ℕ → Type 0
-StepMemory found.Settled job h plan₀ plan s₀ s = Untouched plan₀ plan s₀ s
-StepMemory (found.Over v A B) job h plan₀ plan s₀ s = RecolouredIn job h plan₀ plan A.0 B.0 s₀ s
+abbrev pub StepMemory : Option Over → Job → List ℕ → List ℕ → List ℕ → List ℕ → Type 0
+StepMemory None job plan₀ plan s₀ s = Untouched plan₀ plan s₀ s
+StepMemory (Some over) job plan₀ plan s₀ s = RecolouredIn job plan₀ plan over.crowded.0 over.room.0 s₀ s
 
-pub record Stepped (job : List ℕ) (h : Head) (plan₀ plan s₀ s : List ℕ) (r : Found) : Type 0 where
-  pub named : r ≡ search_of (job_in job) (at plan₀)
-  pub memory : StepMemory r job h plan₀ plan s₀ s
+pub record Stepped (job : Job) (plan₀ plan s₀ s : List ℕ) (r : Option Over) : Type 0 where
+  pub named : r ≡ search_of (board_of job) (at plan₀)
+  pub memory : StepMemory r job plan₀ plan s₀ s

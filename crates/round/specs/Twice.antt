@@ -1,10 +1,9 @@
 -- Two runs of one round from `plan₀` on the same input: `plan` and `s` are what the first leaves, `plan'` and `s'` what the second leaves.
-use Rattle.std.specs.Prelude.{◌≡◌, ◌≢◌, List, ℕ, ◌<◌, length, drop}
+use Rattle.std.specs.Prelude.{◌≡◌, ◌≢◌, List, ℕ, ◌<◌, length, drop, None, Some, Ok, Err}
 use Rattle.laws.specs.Row.{at}
 use Rattle.board.specs.Board.{total}
 use Rattle.job.specs.Job.{n_in, job_in}
-use Rattle.round.specs.declared.Round.{Round}
-use Rattle.round.specs.declared.Round.TheVariants.{Settled, Moved, Refused}
+use Rattle.round.specs.Answer.{Round}
 
 -- they differ in the n numbers of the assignment at most
 pub record SameBeyond (job plan plan' s s' : List ℕ) : Type 0 where
@@ -20,9 +19,9 @@ pub record SameMoved (job plan₀ plan plan' s s' : List ℕ) (A B : ℕ) : Type
 
 -- by the answer; settled or refused they leave the same
 abbrev pub RoundTwice : Round → List ℕ → List ℕ → List ℕ → List ℕ → List ℕ → List ℕ → Type 0
-RoundTwice Settled job plan₀ plan plan' s s' = (plan ≡ plan') × (s ≡ s')
-RoundTwice (Moved v A B) job plan₀ plan plan' s s' = SameMoved job plan₀ plan plan' s s' A.0 B.0
-RoundTwice (Refused r) job plan₀ plan plan' s s' = (plan ≡ plan') × (s ≡ s')
+RoundTwice (Ok None) job plan₀ plan plan' s s' = (plan ≡ plan') × (s ≡ s')
+RoundTwice (Ok (Some over)) job plan₀ plan plan' s s' = SameMoved job plan₀ plan plan' s s' over.crowded.0 over.room.0
+RoundTwice (Err r) job plan₀ plan plan' s s' = (plan ≡ plan') × (s ≡ s')
 
 pub record SameRound (job plan₀ plan plan' s s' : List ℕ) (r r' : Round) : Type 0 where
   pub answer : r ≡ r'

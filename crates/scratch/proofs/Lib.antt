@@ -1,2 +1,2 @@
--- What a part that was lent to `fill` leaves.
+-- What a front that is filled with 0 leaves.
 pub mod Filling

@@ -1,4 +1,4 @@
--- The search answers `Settled` exactly on a legal assignment, and else the three that a round names: these and no others.
+-- The search answers `None` exactly on a legal assignment, and else the three that a round names: these and no others.
 -- Assumes nothing.
 use mathlib.Core.Path.{◌≡◌, ap, sym, subst, ◌∙◌}
 use mathlib.Core.Bool.{true}
@@ -9,23 +9,20 @@ use native.Mathlib.Omega.{arith}
 use borrow.Author.Tests.{lt-ltb, le-ltb, ltb-true}
 use Rattle.laws.specs.Lowest.{first_where}
 use Rattle.laws.proofs.FirstWhere.{first_where_at_most, first_where_before, first_where_holds, first_where_none, lowest_is_first}
-use Rattle.words.specs.declared.Fpga.{Fpga}
-use Rattle.words.specs.declared.Crossbar.{Crossbar}
+use Rattle.std.specs.Prelude.{None}
 use Rattle.board.specs.Netlist.{Netlist}
 use Rattle.board.specs.Board.{degree, load, limit, InRange, Legal}
 use Rattle.board.proofs.Excess.{legal_within, within_legal}
 use Rattle.board.proofs.Limit.{room_below}
-use Rattle.search.specs.declared.Found.TheVariants.{Settled}
+use Rattle.search.specs.declared.Over.{Over}
 use Rattle.search.specs.Search.{over_at, room_at, over_fpga, fpga_of, crowded_of, room_of, over, search_of, LowestOver, Named}
 use Rattle.search.proofs.Tests.{over_says, over_not, room_says, over_none}
 
 -- an answer names one FPGA and two crossbars
 pub over-parts : (v A B v' A' B' : ℕ) → over v A B ≡ over v' A' B' → (v ≡ v') × (A ≡ A') × (B ≡ B')
 over-parts v A B v' A' B' e =
-    let p : ◌≡◌ {A = Fpga} (record { 0 = v }) (record { 0 = v' }) = cc in
-    let q : ◌≡◌ {A = Crossbar} (record { 0 = A }) (record { 0 = A' }) = cc in
-    let r : ◌≡◌ {A = Crossbar} (record { 0 = B }) (record { 0 = B' }) = cc in
-    (ap (λ (x : Fpga). x.0) p, ap (λ (x : Crossbar). x.0) q, ap (λ (x : Crossbar). x.0) r)
+    let p : ◌≡◌ {A = Over} (record { fpga = record { 0 = v }; crowded = record { 0 = A }; room = record { 0 = B } }) (record { fpga = record { 0 = v' }; crowded = record { 0 = A' }; room = record { 0 = B' } }) = cc in
+    (ap (λ (o : Over). o.fpga.0) p, ap (λ (o : Over). o.crowded.0) p, ap (λ (o : Over). o.room.0) p)
 
 -- the three that an answer names
 record Three (J : Netlist) (a : ℕ → ℕ) (v A B : ℕ) : Type 0 where
@@ -40,13 +37,19 @@ module _ (J : Netlist) (a : ℕ → ℕ) where
   fpga-at-most = first_where_at_most (over_fpga J a) J.f
 
   -- no FPGA is over, or the lowest is below f
-  pub search-none : fpga_of J a ≡ J.f → search_of J a ≡ Settled
+  pub search-none : fpga_of J a ≡ J.f → search_of J a ≡ None
   unfolding search_of
   search-none e = rw (le-ltb (fpga_of J a) J.f (omega arith))
 
   pub search-some : fpga_of J a < J.f → search_of J a ≡ over (fpga_of J a) (crowded_of J a (fpga_of J a)) (room_of J a (fpga_of J a))
   unfolding search_of
   search-some l = rw (lt-ltb (fpga_of J a) J.f l)
+
+  -- the FPGA that is found has a load above its width
+  pub crowded_low : (v : ℕ) → v ≡ fpga_of J a → v < J.f → crowded_of J a v < J.c
+  unfolding fpga_of over_fpga crowded_of
+  crowded_low v e l =
+      ltb-true _ _ (subst (λ (u : ℕ). over_fpga J a u ≡ true) (sym e) (first_where_holds (over_fpga J a) J.f (omega (arith, e))))
 
   three : (v A B : ℕ) → search_of J a ≡ over v A B → Three J a v A B
   three v A B e =
@@ -67,7 +70,7 @@ module _ (J : Netlist) (a : ℕ → ℕ) where
   three-search : (v A B : ℕ) → Three J a v A B → search_of J a ≡ over v A B
   three-search v A B t = search-some (omega (arith, t.below, t.fpga)) ∙ rw (t.fpga, t.crowded, t.room)
 
-  settled-none : search_of J a ≡ Settled → fpga_of J a ≡ J.f
+  settled-none : search_of J a ≡ None → fpga_of J a ≡ J.f
   settled-none e =
       dite (dec_lt (fpga_of J a) J.f)
       (λ l.
@@ -83,7 +86,7 @@ module _ (J : Netlist) (a : ℕ → ℕ) where
   )
 
   -- settled exactly where the assignment is legal
-  pub settled-legal : (search_of J a ≡ Settled) ↔ Legal J a
+  pub settled-legal : (search_of J a ≡ None) ↔ Legal J a
   settled-legal = (λ e. none-legal.0 (settled-none e), λ h. search-none (none-legal.1 h))
 
   pub over-not-legal : (v A B : ℕ) → search_of J a ≡ over v A B → Legal J a → ⊥

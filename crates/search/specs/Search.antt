@@ -1,10 +1,9 @@
 -- The lowest FPGA with a load above m, its lowest crossbar A with a load above m, and its lowest crossbar B with a load below m.
-use Rattle.std.specs.Prelude.{Bool, cond, ◌≢◌, ℕ, ◌≤◌, ◌<◌, ltb}
+use Rattle.std.specs.Prelude.{Bool, cond, ◌≢◌, ℕ, ◌≤◌, ◌<◌, ltb, Option, None, Some}
 use Rattle.laws.specs.Lowest.{first_where, somewhere}
 use Rattle.board.specs.Netlist.{Netlist}
 use Rattle.board.specs.Board.{load}
-use Rattle.search.specs.declared.Found.{Found}
-use Rattle.search.specs.declared.Found.TheVariants.{Settled, Over}
+use Rattle.search.specs.declared.Over.{Over}
 
 -- FPGA v has a load above m on crossbar x
 unfoldable pub over_at : Netlist → (ℕ → ℕ) → ℕ → ℕ → Bool
@@ -29,12 +28,16 @@ crowded_of J a v = first_where (over_at J a v) J.c
 unfoldable pub room_of : Netlist → (ℕ → ℕ) → ℕ → ℕ
 room_of J a v = first_where (room_at J a v) J.c
 
--- the answer that names FPGA v and crossbars A and B
-abbrev pub over : ℕ → ℕ → ℕ → Found
-over v A B = Over (record { 0 = v }) (record { 0 = A }) (record { 0 = B })
+-- the lowest of n numbers, where it is said by a number that is n if there is none
+unfoldable pub below : ℕ → ℕ → Option ℕ
+below n k = cond (ltb k n) (Some k) None
 
-unfoldable pub search_of : Netlist → (ℕ → ℕ) → Found
-search_of J a = cond (ltb (fpga_of J a) J.f) (over (fpga_of J a) (crowded_of J a (fpga_of J a)) (room_of J a (fpga_of J a))) Settled
+-- the answer that names FPGA v and crossbars A and B
+abbrev pub over : ℕ → ℕ → ℕ → Option Over
+over v A B = Some (record { fpga = record { 0 = v }; crowded = record { 0 = A }; room = record { 0 = B } })
+
+unfoldable pub search_of : Netlist → (ℕ → ℕ) → Option Over
+search_of J a = cond (ltb (fpga_of J a) J.f) (over (fpga_of J a) (crowded_of J a (fpga_of J a)) (room_of J a (fpga_of J a))) None
 
 -- ---- the same as statements
 

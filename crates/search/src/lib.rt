@@ -4,102 +4,62 @@
 ghost use Rattle.std.specs.Prelude.{◌≡◌, ◌≤◌, ltb, length};
 ghost use Rattle.laws.specs.Row.{at};
 ghost use Rattle.laws.specs.Lowest.{first_where};
-ghost use Rattle.job.specs.Check.{WellFormed};
-ghost use Rattle.job.specs.Job.{job_in};
+ghost use Rattle.job.specs.Board.{board_of};
 ghost use Rattle.board.specs.Board.{InRange};
-ghost use Rattle.search.specs.Search.{fpga_of, search_of};
+ghost use Rattle.search.specs.Search.{below, fpga_of, search_of};
 
-use job::Head;
+use job::Job;
 use tally::count::{loads_of, loads_on};
 use wires::width_of;
-use words::number::wide;
 use words::{Crossbar, Fpga};
 
-// No load is above its width; or an FPGA, its crossbar with too many nets and its crossbar with room.
-#[derive(Clone, Copy)]
-pub enum Found {
-    Settled,
-    Over(Fpga, Crossbar, Crossbar),
+// An FPGA with a load above its width, its crossbar with too many nets and its crossbar with room.
+#[derive(Clone, Copy, Debug, PartialEq, Eq)]
+pub struct Over {
+    pub fpga: Fpga,
+    pub crowded: Crossbar,
+    pub room: Crossbar,
 }
 
-// The first of n counters that is above m; n if there is none.
-fn first_above(count: &[u16], n: usize, m: usize) -> usize
-    requires { n ≤ length count.now }
-    ensures { result ≡ first_where (λ k. ltb m (at count.now k)) n }
+// The first of n FPGAs whose counter is above its width.
+fn first_over(job: &Job, count: [u16; 256], n: usize) -> Option<usize>
+    requires { n ≤ 256 }
+    ensures { result ≡ below n (first_where (λ v. ltb ((board_of job.now).width v) (at count v)) n) }
 {
-    let mut k: usize = 0;
-    while k < n {
-        if m < wide(count[k]) {
-            return k;
-        }
-        k += 1;
-    }
-    n
+    (0..n).find(|&v| width_of(job, v) < count[v] as usize)
 }
 
-// The first of n counters that is below m; n if there is none.
-fn first_below(count: &[u16], n: usize, m: usize) -> usize
-    requires { n ≤ length count.now }
-    ensures { result ≡ first_where (λ k. ltb (at count.now k) m) n }
+// The lowest FPGA with a load above its width on any crossbar.
+fn lowest_over(job: &Job, plan: &[u16]) -> Option<usize>
+    requires { job.now.head.n ≤ length plan.now }
+    ensures { result ≡ below job.now.head.f (fpga_of (board_of job.now) (at plan.now)) }
 {
-    let mut k: usize = 0;
-    while k < n {
-        if wide(count[k]) < m {
-            return k;
-        }
-        k += 1;
-    }
-    n
-}
-
-// The first of n FPGAs whose counter is above its width; n if there is none.
-fn first_over(job: &[u8], head: Head, count: [u16; 256], n: usize) -> usize
-    requires { (WellFormed job.now head) × (n ≤ 256) }
-    ensures { result ≡ first_where (λ v. ltb ((job_in job.now).width v) (at count v)) n }
-{
-    let mut v: usize = 0;
-    while v < n {
-        if width_of(job, head, v) < wide(count[v]) {
-            return v;
-        }
-        v += 1;
-    }
-    v
-}
-
-// The lowest FPGA with a load above its width on any crossbar; f if there is none.
-fn lowest_over(job: &[u8], head: Head, plan: &[u16]) -> usize
-    requires { (WellFormed job.now head) × (head.n ≤ length plan.now) }
-    ensures { result ≡ fpga_of (job_in job.now) (at plan.now) }
-{
-    let mut low = head.f;
-    let mut x: usize = 0;
-    while x < head.c {
-        let count = loads_on(job, head, plan, x);
+    let mut lowest = None;
+    for x in 0..job.head.c {
         // Only an FPGA below the lowest so far can be the answer.
-        low = first_over(job, head, count, low);
-        x += 1;
+        let end = lowest.unwrap_or(job.head.f);
+        lowest = first_over(job, loads_on(job, plan, x), end).or(lowest);
     }
-    low
+    lowest
 }
 
-// What a round is made on, or that the assignment is legal.
-pub fn search(job: &[u8], head: Head, plan: &[u16]) -> Found
-    requires well_formed { (WellFormed job.now head) × (head.n ≤ length plan.now) }
-    requires in_range { InRange (job_in job.now) (at plan.now) }
-    ensures { result ≡ search_of (job_in job.now) (at plan.now) }
+// What a round is made on; none where the assignment is legal.
+pub fn search(job: &Job, plan: &[u16]) -> Option<Over>
+    requires every_net { job.now.head.n ≤ length plan.now }
+    requires in_range { InRange (board_of job.now) (at plan.now) }
+    ensures { result ≡ search_of (board_of job.now) (at plan.now) }
 {
-    let v = lowest_over(job, head, plan);
-    if head.f <= v {
-        return Found::Settled;
-    }
-    let loads = loads_of(job, head, plan, v);
-    let width = width_of(job, head, v);
-    let crowded = first_above(&loads, head.c, width);
-    let room = first_below(&loads, head.c, width);
-    Found::Over(
-        Fpga(v as u16),
-        Crossbar(crowded as u16),
-        Crossbar(room as u16),
-    )
+    let v = lowest_over(job, plan)?;
+    let loads = loads_of(job, plan, v);
+    let width = width_of(job, v);
+    let crowded = (0..job.head.c).find(|&x| width < loads[x] as usize)?;
+    // `search_of` names crossbar c where no crossbar has room.
+    let room = (0..job.head.c)
+        .find(|&x| (loads[x] as usize) < width)
+        .unwrap_or(job.head.c);
+    Some(Over {
+        fpga: Fpga(v as u16),
+        crowded: Crossbar(crowded as u16),
+        room: Crossbar(room as u16),
+    })
 }

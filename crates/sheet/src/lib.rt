@@ -2,34 +2,30 @@
 #![tactic(auto)]
 
 ghost use Rattle.std.specs.Prelude.{◌≡◌};
-ghost use Rattle.job.specs.Check.{WellFormed};
 ghost use Rattle.sheet.specs.Sheet.{totals_count_at, totals_at, sheet_length};
 
-use job::Head;
+use job::Job;
 
 pub mod put;
 pub mod read;
 
 // The byte of the totals' count.
-pub fn totals_count_at(job: &[u8], head: Head) -> usize
-    requires { WellFormed job.now head }
-    ensures { result ≡ totals_count_at job.now }
+pub fn totals_count_at(job: &Job) -> usize
+    ensures { result ≡ totals_count_at job.now.bytes.now }
 {
-    head.start + 2 * head.n
+    job.head.start + 2 * job.head.n
 }
 
 // The byte of the first total.
-pub fn totals_at(job: &[u8], head: Head) -> usize
-    requires { WellFormed job.now head }
-    ensures { result ≡ totals_at job.now }
+pub fn totals_at(job: &Job) -> usize
+    ensures { result ≡ totals_at job.now.bytes.now }
 {
-    totals_count_at(job, head) + 2
+    totals_count_at(job) + 2
 }
 
 // The length of a sheet.
-pub fn sheet_length(job: &[u8], head: Head) -> usize
-    requires { WellFormed job.now head }
-    ensures { result ≡ sheet_length job.now }
+pub fn sheet_length(job: &Job) -> usize
+    ensures { result ≡ sheet_length job.now.bytes.now }
 {
-    totals_at(job, head) + 2 * head.c
+    totals_at(job) + 2 * job.head.c
 }

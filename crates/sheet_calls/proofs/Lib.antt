@@ -1,2 +1,2 @@
--- What the audit's answer says of the job.
-pub mod Answered
+-- What the refusals of too little room leave.
+pub mod Lending

@@ -1,90 +1,48 @@
 // How many nets more an FPGA can take, and two of them together.
 #![tactic(auto)]
 
-ghost use Rattle.std.specs.Prelude.{◌≡◌, ◌<◌, min};
+ghost use Rattle.std.specs.Prelude.{◌≡◌, ◌<◌};
 ghost use Rattle.laws.specs.Count.{Counted};
-ghost use Rattle.job.specs.Job.{job_in};
-ghost use Rattle.job.specs.Check.{WellFormed};
+ghost use Rattle.job.specs.Board.{board_of};
 ghost use Rattle.board.specs.Board.{degree, WithinLimits};
-ghost use Rattle.refusals.specs.Asked.{asked_verdict, both_verdict};
-ghost use Rattle.spare.specs.Spare.{spare_of, headroom_of, room_by, spare_room, headroom_room};
+ghost use Rattle.spare.specs.Spare.{spare_of, spare_room, headroom_room};
 
-use job::{Checked, Head};
+use job::Job;
 use refusals::asked::{check_asked, check_both, check_fitting};
 use tally::count::degrees;
 use wires::limit_of;
-use words::number::wide;
-use words::{Fpga, Net, Verdict};
-
-// Room for so many nets, or why that is not to be said.
-#[derive(Clone, Copy)]
-pub enum Room {
-    Nets(Net),
-    Refused(words::Refusal),
-}
+use words::{Fpga, Net, Reason, Refusal};
 
 // What FPGA v has left of its limit, by the counters of the degrees.
-fn left_of(job: &[u8], head: Head, count: [u16; 256], v: usize) -> Net
-    requires well_formed { (WellFormed job.now head) × WithinLimits (job_in job.now) }
-    requires v_lt_f { (v < head.f) × Counted count 256 (degree (job_in job.now)) }
-    ensures { result.0 ≡ spare_of (job_in job.now) v }
+fn left_of(job: &Job, count: &[u16; 256], v: Fpga) -> Net
+    requires within { WithinLimits (board_of job.now) }
+    requires counted { Counted count.now 256 (degree (board_of job.now)) }
+    requires known { v.0 < job.now.head.f }
+    ensures { result.0 ≡ spare_of (board_of job.now) v.0 }
 {
-    Net((limit_of(job, head, v) - wide(count[v])) as u16)
-}
-
-fn smaller(a: Net, b: Net) -> Net
-    ensures { result.0 ≡ min a.0 b.0 }
-{
-    if b.0 < a.0 {
-        return b;
-    }
-    a
-}
-
-// Of a job that is not refused.
-fn spare_in(job: &[u8], head: Head, v: Fpga) -> Room
-    requires { (WellFormed job.now head) × WithinLimits (job_in job.now) }
-    ensures { result ≡ room_by (asked_verdict 9 head.f v.0) (spare_of (job_in job.now) v.0) }
-{
-    let asked = check_asked(9, head.f, v);
-    if let Verdict::Refused(r) = asked {
-        return Room::Refused(r);
-    }
-    Room::Nets(left_of(job, head, degrees(job, head), wide(v.0)))
-}
-
-fn headroom_in(job: &[u8], head: Head, v: Fpga, w: Fpga) -> Room
-    requires { (WellFormed job.now head) × WithinLimits (job_in job.now) }
-    ensures { result ≡ room_by (both_verdict head.f v.0 w.0) (headroom_of (job_in job.now) v.0 w.0) }
-{
-    let asked = check_both(head.f, v, w);
-    if let Verdict::Refused(r) = asked {
-        return Room::Refused(r);
-    }
-    let count = degrees(job, head);
-    let first = left_of(job, head, count, wide(v.0));
-    let second = left_of(job, head, count, wide(w.0));
-    Room::Nets(smaller(first, second))
+    let at = v.0 as usize;
+    Net((limit_of(job, at) - count[at] as usize) as u16)
 }
 
 // Spare of an FPGA.
-pub fn spare(job: &[u8], v: Fpga) -> Room
+#[tactic(auto, using(words::proofs::Order::then_refused, words::proofs::Order::then_next), unfolding(refusals::specs::Asked::spare_verdict))]
+pub fn spare(job: &[u8], v: Fpga) -> Result<Net, Refusal>
     ensures { result ≡ spare_room job.now v.0 }
 {
-    let checked = check_fitting(job);
-    match checked {
-        Checked::Refused(r) => Room::Refused(r),
-        Checked::Passed(head) => spare_in(job, head, v),
-    }
+    let fitting = check_fitting(job)?;
+    check_asked(Reason::FirstEnd, fitting.head.f, v)?;
+    Ok(left_of(&fitting, &degrees(&fitting), v))
 }
 
 // Headroom of two FPGAs.
-pub fn headroom(job: &[u8], v: Fpga, w: Fpga) -> Room
+#[tactic(auto, using(words::proofs::Order::then_refused, words::proofs::Order::then_next), unfolding(refusals::specs::Asked::headroom_verdict, crate::specs::Spare::headroom_of))]
+pub fn headroom(job: &[u8], v: Fpga, w: Fpga) -> Result<Net, Refusal>
     ensures { result ≡ headroom_room job.now v.0 w.0 }
 {
-    let checked = check_fitting(job);
-    match checked {
-        Checked::Refused(r) => Room::Refused(r),
-        Checked::Passed(head) => headroom_in(job, head, v, w),
-    }
+    let fitting = check_fitting(job)?;
+    check_both(fitting.head.f, v, w)?;
+    let count = degrees(&fitting);
+    let first = left_of(&fitting, &count, v);
+    let second = left_of(&fitting, &count, w);
+    Ok(first.min(second))
 }

@@ -10,72 +10,57 @@
 // loads differ by 1. For t = h they differ by 0 or 2, and by 0 where t is even: so for t + h = 2m, since m is even.
 #![tactic(auto)]
 
-ghost use Rattle.std.specs.Prelude.{◌≡◌, ◌+◌, ◌≤◌, ◌<◌, length};
-ghost use Rattle.scratch.specs.Scratch.{most_nets, scratch_long};
+ghost use Rattle.std.specs.Prelude.{◌≡◌, ◌+◌, ◌≤◌, length};
+ghost use Rattle.scratch.specs.Scratch.{most_nets};
 ghost use Rattle.split.specs.Split.{NetsIn, Halved};
-ghost use Rattle.split.specs.Stages.{Flipped, swapped, Directed, Oriented, Coloured};
+ghost use Rattle.split.specs.Stages.{Flipped, Directed, EndsIn, Oriented, DirectedNets, Coloured};
 
 use pair::pair;
-use scratch::{ENDS, FLIP, LABELS, MATES};
+use scratch::{FLIP, LABELS, MATES};
 use walk::alternate;
 
-// The other end of the same net, for each end.
-fn flip(f: &mut [u16], k: usize)
-    requires { (length f.old ≡ k + k) × (k ≤ most_nets) }
-    ensures { Flipped f.new k k }
+// The other end of the same net, for each end of k nets.
+fn flip(others: &mut [u16], k: usize)
+    requires { (length others.old ≡ k + k) × (k ≤ most_nets) }
+    ensures { Flipped others.new k k }
 {
-    let mut i = 0;
-    while i < k {
-        f[i] = (k + i) as u16;
-        f[k + i] = i as u16;
-        i += 1;
+    for i in 0..k {
+        others[i] = (k + i) as u16;
+        others[k + i] = i as u16;
     }
 }
 
-fn swap(s: &mut [u16], i: usize, j: usize)
-    requires { (i < length s.old) × (j < length s.old) }
-    ensures { s.new ≡ swapped s.old i j }
-{
-    let a = s[i];
-    s[i] = s[j];
-    s[j] = a;
-}
-
 // A net leaves its first end: so the ends of a net whose first end has the label 1, "in", are swapped.
-fn direct(s: &mut [u16], k: usize)
-    requires { (k ≤ most_nets) × (scratch_long ≤ length s.old) }
-    ensures { Directed s.old s.new k k }
+fn direct(ends: &mut [u16], labels: &[u16], k: usize)
+    requires { (length ends.old ≡ k + k) × (length labels.now ≡ k + k) }
+    ensures { Directed ends.old ends.new labels.now k k }
 {
-    let mut i = 0;
-    while i < k {
-        let e = i;
-        i += 1;
-        if s[LABELS + e] == 1 {
-            swap(s, e, k + e);
+    for e in 0..k {
+        if labels[e] == 1 {
+            ends.swap(e, k + e);
         }
     }
 }
 
 // Directs the nets so that as many leave each FPGA as enter it, but for one.
-fn orient(s: &mut [u16], k: usize)
-    requires { NetsIn s.old k }
-    ensures { Oriented s.old s.new k }
+fn orient(ends: &mut [u16], mates: &mut [u16], others: &mut [u16], labels: &mut [u16], k: usize)
+    requires { EndsIn ends.old mates.old others.old labels.old k }
+    ensures { Oriented ends.old ends.new k }
 {
-    let n = k + k;
-    flip(&mut s[FLIP..FLIP + n], k);
-    pair(s, ENDS, MATES, n);
-    alternate(s, MATES, FLIP, LABELS, n);
-    direct(s, k);
+    flip(others, k);
+    pair(ends, mates);
+    alternate(mates, others, labels);
+    direct(ends, labels, k);
 }
 
 // Labels the nets so that those that leave an FPGA are split, and those that enter it.
-fn colour(s: &mut [u16], k: usize)
-    requires { NetsIn s.old k }
-    ensures { Coloured s.old s.new k }
+fn colour(first: &[u16], second: &[u16], out: &mut [u16], into: &mut [u16], labels: &mut [u16])
+    requires { DirectedNets first.now second.now out.old into.old labels.old }
+    ensures { Coloured first.now second.now labels.new }
 {
-    pair(s, ENDS, MATES, k);
-    pair(s, k, MATES + k, k);
-    alternate(s, MATES, MATES + k, LABELS, k);
+    pair(first, out);
+    pair(second, into);
+    alternate(out, into, labels);
 }
 
 // The FPGAs of the k first ends stand at s[..k], those of the second ends at s[k..k + k]: each net's two ends may be swapped.
@@ -84,6 +69,23 @@ pub fn split(s: &mut [u16], k: usize)
     requires { NetsIn s.old k }
     ensures { Halved s.old s.new k }
 {
-    orient(s, k);
-    colour(s, k);
+    let n = k + k;
+    let (ends, rest) = s.split_at_mut(MATES);
+    let (mates, rest) = rest.split_at_mut(FLIP - MATES);
+    let (others, labels) = rest.split_at_mut(LABELS - FLIP);
+    orient(
+        &mut ends[..n],
+        &mut mates[..n],
+        &mut others[..n],
+        &mut labels[..n],
+        k,
+    );
+    let (first, second) = ends[..n].split_at(k);
+    colour(
+        first,
+        second,
+        &mut mates[..k],
+        &mut others[..k],
+        &mut labels[..k],
+    );
 }

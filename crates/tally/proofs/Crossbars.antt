@@ -1,4 +1,4 @@
--- The excess summed crossbar by crossbar, and the spread by counted totals.
+-- The excess summed crossbar by crossbar.
 -- Assumes nothing.
 use mathlib.Core.Path.{◌≡◌, ap, sym, ◌∙◌}
 use mathlib.Core.List.{List}
@@ -8,11 +8,10 @@ use Rattle.laws.specs.Sum.{sum}
 use Rattle.laws.specs.Row.{at}
 use Rattle.laws.specs.Count.{Counted}
 use Rattle.laws.proofs.Sum.{sum_same, sum_swap}
-use Rattle.job.specs.declared.Head.{Head}
-use Rattle.job.specs.Check.{WellFormed}
 use Rattle.board.specs.Netlist.{Netlist}
-use Rattle.job.specs.Job.{job_in}
 use Rattle.board.specs.Board.{load, excess, total_excess}
+use Rattle.job.specs.declared.Job.{Job}
+use Rattle.job.specs.Board.{board_of}
 
 -- what the loads at crossbar x are above the widths, together
 unfoldable pub excess_on : Netlist → (ℕ → ℕ) → ℕ → ℕ
@@ -22,15 +21,15 @@ pub excess_by_crossbar : (J : Netlist) (a : ℕ → ℕ) → total_excess J a �
 unfolding total_excess excess excess_on
 excess_by_crossbar J a = sum_swap (λ v x. load J a v x - J.width v) J.c J.f
 
-module _ (job : List ℕ) (h : Head) (p : WellFormed job h) (a : ℕ → ℕ) where
+module _ (job : Job) (a : ℕ → ℕ) where
   -- by the counters of one crossbar
-  pub excess_counted : {count : List ℕ} (x : ℕ) → Counted count 256 (λ v. load (job_in job) a v x)
-      → sum (λ v. at count v - (job_in job).width v) h.f ≡ excess_on (job_in job) a x
+  pub excess_counted : {count : List ℕ} (x : ℕ) → Counted count 256 (λ v. load (board_of job) a v x)
+      → sum (λ v. at count v - (board_of job).width v) job.head.f ≡ excess_on (board_of job) a x
   unfolding excess_on
   excess_counted {count} x k =
-      sum_same (λ v. at count v - (job_in job).width v) (λ v. load (job_in job) a v x - (job_in job).width v) h.f (λ v l.
-      omega (arith, k.count v (omega (arith, p.ranged.f_high))))
-      ∙ ap (sum (λ v. load (job_in job) a v x - (job_in job).width v)) p.f
+      sum_same (λ v. at count v - (board_of job).width v) (λ v. load (board_of job) a v x - (board_of job).width v) job.head.f (λ v l.
+      omega (arith, k.count v (omega (arith, job.well_formed.ranged.f_high))))
+      ∙ ap (sum (λ v. load (board_of job) a v x - (board_of job).width v)) job.well_formed.f
 
-  pub excess_all : (x : ℕ) → x ≡ h.c → sum (excess_on (job_in job) a) x ≡ total_excess (job_in job) a
-  excess_all x e = ap (sum (excess_on (job_in job) a)) (e ∙ p.c) ∙ sym (excess_by_crossbar (job_in job) a)
+  pub excess_all : (x : ℕ) → x ≡ job.head.c → sum (excess_on (board_of job) a) x ≡ total_excess (board_of job) a
+  excess_all x e = ap (sum (excess_on (board_of job) a)) (e ∙ job.well_formed.c) ∙ sym (excess_by_crossbar (board_of job) a)

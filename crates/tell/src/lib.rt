@@ -1,117 +1,149 @@
-// How an answer is told in C: a number that is returned, and four numbers in the caller's `answer`.
+// How an answer is told in C: a number that is returned, and four numbers in the caller's `answer`. Codes and zeros here are the C interface.
 #![tactic(auto)]
 
-ghost use Rattle.std.specs.Prelude.{◌≡◌, ◌≤◌};
-ghost use Rattle.job.specs.Read.{section_long};
-ghost use Rattle.tell.specs.InC.{four, verdict_in_c, written_in_c, numbers_in_c, net_in_c, section_in_c, round_in_c, finish_in_c, fault_in_c, room_in_c};
+ghost use Rattle.std.specs.Prelude.{◌≡◌, List, ℕ};
+ghost use Rattle.job.specs.Check.{checked_of};
+ghost use Rattle.tell.specs.InC.{InC, four, answer_in_c, numbers_in_c, net_in_c, section_in_c, over_in_four, fault_in_c};
 
 use evidence::Fault;
-use finish::Finish;
-use job::{Checked, NetEnds};
+use finish::Rounds;
+use job::well_formed::check_job;
 use reader::Numbers;
-use round::Round;
-use spare::Room;
-use words::number::wide;
-use words::{Verdict, Written, number_of, p_of, q_of};
+use search::Over;
+use words::{Fpga, Net, Refusal};
 
-fn put(answer: &mut [u64; 4], a: usize, b: usize, c: usize, d: usize)
-    ensures { answer.new ≡ four a b c d }
-{
-    *answer = [a as u64, b as u64, c as u64, d as u64];
+// What four numbers say, filled up with zeros.
+pub trait InFour {
+    ghost in_four: { Self → List ℕ };
+
+    fn in_four(self) -> [u64; 4]
+        ensures { result ≡ in_four self };
 }
 
-pub fn tell_verdict(v: Verdict, answer: &mut [u64; 4]) -> u16
-    ensures { (result, answer.new) ≡ verdict_in_c v }
-{
-    put(answer, p_of(v), q_of(v), 0, 0);
-    number_of(v)
+// What a call returns and writes.
+pub trait Answer {
+    ghost in_c: { Self → InC };
+
+    fn in_c(self) -> (u16, [u64; 4])
+        ensures { result ≡ in_c self };
 }
 
-pub fn tell_written(made: Written, answer: &mut [u64; 4]) -> u16
-    ensures { (result, answer.new) ≡ written_in_c made }
-{
-    match made {
-        Written::Long(k) => {
-            put(answer, k, 0, 0, 0);
-            0
-        }
-        Written::Refused(r) => tell_verdict(Verdict::Refused(r), answer),
+// Done, and nothing more.
+impl InFour for () {
+    ghost in_four = { λ _. four 0 0 0 0 };
+
+    fn in_four(self) -> [u64; 4] {
+        [0; 4]
     }
 }
 
-pub fn tell_numbers(h: Numbers, answer: &mut [u64; 4])
-    ensures { answer.new ≡ numbers_in_c h }
-{
-    put(answer, wide(h.f.0), wide(h.c.0), wide(h.m), wide(h.n.0));
-}
+// So many bytes or numbers written.
+impl InFour for usize {
+    ghost in_four = { λ k. four k 0 0 0 };
 
-pub fn tell_section(checked: Checked, answer: &mut [u64; 4])
-    requires { section_long checked ≤ 16384 }
-    ensures { answer.new ≡ section_in_c checked }
-{
-    match checked {
-        Checked::Refused(_) => put(answer, 0, 0, 0, 0),
-        Checked::Passed(head) => put(answer, head.start, 4 * head.n, 0, 0),
+    fn in_four(self) -> [u64; 4] {
+        [self as u64, 0, 0, 0]
     }
 }
 
-pub fn tell_net(ends: NetEnds, answer: &mut [u64; 4]) -> u16
-    ensures { (result, answer.new) ≡ net_in_c ends }
-{
-    match ends {
-        NetEnds::NoNet => {
-            put(answer, 0, 0, 0, 0);
-            0
-        }
-        NetEnds::Ends(v, w) => {
-            put(answer, wide(v.0), wide(w.0), 0, 0);
-            1
+// Room for so many nets.
+impl InFour for Net {
+    ghost in_four = { λ k. four k.0 0 0 0 };
+
+    fn in_four(self) -> [u64; 4] {
+        [self.0 as u64, 0, 0, 0]
+    }
+}
+
+// A round: 1 and what it was made on, or zeros where the assignment was settled.
+impl InFour for Option<Over> {
+    ghost in_four = { over_in_four };
+
+    fn in_four(self) -> [u64; 4] {
+        match self {
+            None => [0; 4],
+            Some(over) => [
+                1,
+                over.fpga.0 as u64,
+                over.crowded.0 as u64,
+                over.room.0 as u64,
+            ],
         }
     }
 }
 
-pub fn tell_round(made: Round, answer: &mut [u64; 4]) -> u16
-    ensures { (result, answer.new) ≡ round_in_c made }
-{
-    match made {
-        Round::Settled => {
-            put(answer, 0, 0, 0, 0);
-            0
-        }
-        Round::Moved(v, x, y) => {
-            put(answer, 1, wide(v.0), wide(x.0), wide(y.0));
-            0
-        }
-        Round::Refused(r) => tell_verdict(Verdict::Refused(r), answer),
+// The rounds made, and the excess before the first.
+impl InFour for Rounds {
+    ghost in_four = { λ rounds. four rounds.made rounds.excess 0 0 };
+
+    fn in_four(self) -> [u64; 4] {
+        [self.made as u64, self.excess as u64, 0, 0]
     }
 }
 
-pub fn tell_finish(made: Finish, answer: &mut [u64; 4]) -> u16
-    ensures { (result, answer.new) ≡ finish_in_c made }
-{
-    match made {
-        Finish::Done(k, excess) => {
-            put(answer, k, excess, 0, 0);
-            0
-        }
-        Finish::Refused(r) => tell_verdict(Verdict::Refused(r), answer),
+impl InFour for Numbers {
+    ghost in_four = { numbers_in_c };
+
+    fn in_four(self) -> [u64; 4] {
+        [
+            self.f.0 as u64,
+            self.c.0 as u64,
+            self.m as u64,
+            self.n.0 as u64,
+        ]
     }
 }
 
-pub fn tell_room(left: Room, answer: &mut [u64; 4]) -> u16
-    ensures { (result, answer.new) ≡ room_in_c left }
-{
-    match left {
-        Room::Nets(k) => {
-            put(answer, wide(k.0), 0, 0, 0);
-            0
-        }
-        Room::Refused(r) => tell_verdict(Verdict::Refused(r), answer),
+impl InFour for Fault {
+    ghost in_four = { fault_in_c };
+
+    fn in_four(self) -> [u64; 4] {
+        [self.file as u64, self.start as u64, self.long as u64, 0]
     }
 }
 
-pub fn tell_fault(found: Fault, answer: &mut [u64; 4])
-    ensures { answer.new ≡ fault_in_c found }
+// 0 and what was answered; or the refusal's number, p and q.
+impl<T: InFour> Answer for Result<T, Refusal> {
+    ghost in_c = { answer_in_c T.in_four };
+
+    fn in_c(self) -> (u16, [u64; 4]) {
+        match self {
+            Ok(said) => (0, said.in_four()),
+            Err(r) => (
+                r.reason as u16,
+                [r.place.p() as u64, r.place.q() as u64, 0, 0],
+            ),
+        }
+    }
+}
+
+// 1 and the net's two FPGAs; or 0.
+impl Answer for Option<(Fpga, Fpga)> {
+    ghost in_c = { net_in_c };
+
+    fn in_c(self) -> (u16, [u64; 4]) {
+        match self {
+            None => (0, [0; 4]),
+            Some((v, w)) => (1, [v.0 as u64, w.0 as u64, 0, 0]),
+        }
+    }
+}
+
+// Writes the four numbers of an answer to the caller's, and returns what C is to return.
+pub fn tell<T: Answer>(said: T, answer: &mut [u64; 4]) -> u16
+    ensures { (result, answer.new) ≡ T.in_c said }
 {
-    put(answer, found.sheet as usize, found.start, found.long, 0);
+    let (returned, written) = said.in_c();
+    *answer = written;
+    returned
+}
+
+// Where the nets of a job stand; of a refused job four zeros.
+pub fn tell_section(job: &[u8], answer: &mut [u64; 4])
+    ensures { answer.new ≡ section_in_c (checked_of job.now) }
+{
+    *answer = match check_job(job) {
+        Ok(checked) => [checked.head.start as u64, 4 * checked.head.n as u64, 0, 0],
+        Err(_) => [0; 4],
+    };
 }

@@ -1,6 +1,6 @@
--- Text put behind text, numbers in decimal, and each form put piece by piece.
+-- Text put behind text, numbers in decimal, how long they are, and letters put behind a text in a lent room.
 
 pub mod Putting
 pub mod Decimals
 pub mod Lengths
-pub mod Forming
+pub mod Gaining

@@ -3,13 +3,12 @@
 use mathlib.Core.Path.{◌≡◌, refl, sym, ap, ◌∙◌}
 use mathlib.Core.List.{List, [], ◌∷◌, ◌++◌}
 use Prim.Native.Nat.{ℕ, ◌+◌, ◌≤◌, ◌<◌}
-use native.Mathlib.Numerals.{add-one}
 use native.Mathlib.Omega.{arith}
-use lib.ListN.{length, get_or, take, set, length-append}
-use lib.Seq.{take-suc, set_at, append_snoc}
+use lib.ListN.{length, set, length-append}
+use lib.Seq.{set_at, append_snoc}
 use borrow.Author.Tests.{lt-ltb, le-ltb}
 use Rattle.words.specs.Lent.{onto}
-use Rattle.text.specs.Text.{Text, up_to, put, puts, each}
+use Rattle.text.specs.Text.{Text, up_to, put, puts}
 
 pub puts_append : (t : Text) (a b : List ℕ) → puts (puts t a) b ≡ puts t (a ++ b)
 unfolding puts
@@ -33,25 +32,6 @@ module _ (room : List ℕ) (at b : ℕ) where
   pub put_one : at < length room → up_to (set room at b) (at + 1) ≡ puts (up_to room at) (b ∷ [])
   unfolding put puts
   put_one h = rw (lt-ltb at (length room) h)
-
--- one letter more of a word
-pub letter_next : (t u v : Text) (s : List ℕ) (i : ℕ) → i < length s → u ≡ puts t (take i s) → v ≡ puts u (get_or s i 0 ∷ []) → v ≡ puts t (take (i + 1) s)
-letter_next t u v s i l p q =
-    let more : take i s ++ (get_or s i 0 ∷ []) ≡ take (i + 1) s = rw (add-one, take-suc s i 0) in
-    behind t u v (take i s) (get_or s i 0 ∷ []) p q ∙ ap (puts t) more
-
--- one text more of a series
-pub each_next : (t u v : Text) (f : ℕ → List ℕ) (i : ℕ) → u ≡ puts t (each f i) → v ≡ puts u (f i) → v ≡ puts t (each f (i + 1))
-unfolding each
-each_next t u v f i p q = rw add-one (behind t u v (each f i) (f i) p q)
-
-pub each_none : (t : Text) (f : ℕ → List ℕ) → t ≡ puts t (each f 0)
-unfolding each puts
-each_none t f = refl
-
--- all of it
-pub each_all : (t u : Text) (f : ℕ → List ℕ) (i n : ℕ) → i ≡ n → u ≡ puts t (each f i) → u ≡ puts t (each f n)
-each_all t u f i n e p = p ∙ ap (λ (k : ℕ). puts t (each f k)) e
 
 -- where there is room for all of it, a text stands behind what stood there
 pub puts_behind : (p r s : List ℕ) (k : ℕ) → length p ≡ k → length s ≤ length r → puts (up_to (p ++ r) k) s ≡ up_to (p ++ onto s r) (k + length s)

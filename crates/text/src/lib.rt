@@ -1,89 +1,96 @@
-// Text formed in lent memory: `at` is where the text so far ends, the answer is where it ends then. What has no room is left out.
+// Text formed in lent memory: each piece is put behind the text so far. What has no room is left out.
 #![tactic(auto)]
 
 ghost use Rattle.std.specs.Prelude.{◌≡◌, [], ◌∷◌, ◌≤◌, length, take};
-ghost use Rattle.text.specs.Text.{up_to, puts};
-ghost use Rattle.text.specs.Forms.{decimal, spaced, all_spaced, line as lineText};
+ghost use Rattle.text.specs.Text.{up_to};
+ghost use Rattle.text.specs.Lent.{text_so_far, Gains};
+ghost use Rattle.text.specs.Forms.{decimal, spaced, all_spaced, line};
 
-use words::number::wide;
-
-pub fn byte(room: &mut [u8], at: usize, b: u8) -> usize
-    ensures { up_to room.new result ≡ puts (up_to room.old at) (b ∷ []) }
-{
-    if room.len() <= at {
-        return at;
-    }
-    room[at] = b;
-    at + 1
+// A lent room, and the byte of it where the text ends.
+#[derive(Drop)]
+pub struct Text<'a> {
+    pub room: &'a mut [u8],
+    pub end: usize,
 }
 
-pub fn word(room: &mut [u8], at: usize, letters: &[u8]) -> usize
-    ensures { up_to room.new result ≡ puts (up_to room.old at) letters.now }
-{
-    let mut end = at;
-    for i in 0..letters.len() {
-        end = byte(room, end, letters[i]);
+impl<'a> Text<'a> {
+    // The room with no text in it yet.
+    pub fn new(room: &'a mut [u8]) -> Text<'a>
+        ensures same_room { result.room.ghost_name ≡ room.entry.ghost_name }
+        ensures empty { text_so_far result ≡ up_to room.old 0 }
+    {
+        Text { room, end: 0 }
     }
-    end
-}
 
-// A number in decimal: first its digits but the last.
-pub fn digits(room: &mut [u8], at: usize, n: usize) -> usize
-    ensures { up_to room.new result ≡ puts (up_to room.old at) (decimal n) }
-{
-    if n < 10 {
-        return byte(room, at, (48 + n) as u8);
+    pub fn byte(&mut self, b: u8)
+        ensures { Gains self.old self.new (b ∷ []) }
+    {
+        if self.end < self.room.len() {
+            self.room[self.end] = b;
+            self.end += 1;
+        }
     }
-    let end = digits(room, at, n / 10);
-    byte(room, end, (48 + n % 10) as u8)
+
+    pub fn word(&mut self, letters: &[u8])
+        ensures { Gains self.old self.new letters.now }
+    {
+        for letter in letters {
+            self.byte(*letter);
+        }
+    }
+
+    // A number in decimal: its last digit stands behind the others. Not by `write!`: the library says what it wrote only on `Ok`, and never that a
+    // writer that cannot fail gives `Ok`.
+    pub fn digits(&mut self, n: usize)
+        ensures { Gains self.old self.new (decimal n) }
+    {
+        if n < 10 {
+            self.byte(b'0' + n as u8);
+        } else {
+            self.digits(n / 10);
+            self.byte(b'0' + (n % 10) as u8);
+        }
+    }
+
+    // A space and the number.
+    pub fn number(&mut self, n: usize)
+        ensures { Gains self.old self.new (spaced n) }
+    {
+        self.byte(b' ');
+        self.digits(n);
+    }
+
+    pub fn numbers(&mut self, list: &[u16])
+        ensures { Gains self.old self.new (all_spaced list.now) }
+    {
+        for n in list {
+            self.number(*n as usize);
+        }
+    }
+
+    // A word, its numbers and the end of the line.
+    pub fn line(&mut self, letters: &[u8], list: &[u16])
+        ensures { Gains self.old self.new (line letters.now list.now) }
+    {
+        self.word(letters);
+        self.numbers(list);
+        self.byte(b'\n');
+    }
 }
 
 // How many digits a number has.
 pub fn digits_long(n: usize) -> usize
     ensures { (result ≡ length (decimal n)) × (result ≤ 20) }
 {
-    let mut long: usize = 1;
-    let mut left = n;
-    while 10 <= left {
-        left /= 10;
-        long += 1;
+    if n < 10 {
+        return 1;
     }
-    long
+    digits_long(n / 10) + 1
 }
 
-// A space and the number.
-pub fn number(room: &mut [u8], at: usize, n: usize) -> usize
-    ensures { up_to room.new result ≡ puts (up_to room.old at) (spaced n) }
+// The text that ends at `end`.
+pub fn so_far(room: &[u8], end: usize) -> &[u8]
+    ensures { result.now ≡ take end room.now }
 {
-    let end = byte(room, at, 32);
-    digits(room, end, n)
-}
-
-pub fn numbers(room: &mut [u8], at: usize, list: &[u16]) -> usize
-    ensures { up_to room.new result ≡ puts (up_to room.old at) (all_spaced list.now) }
-{
-    let mut end = at;
-    for i in 0..list.len() {
-        end = number(room, end, wide(list[i]));
-    }
-    end
-}
-
-// A word, its numbers and the end of the line.
-pub fn line(room: &mut [u8], at: usize, letters: &[u8], list: &[u16]) -> usize
-    ensures { up_to room.new result ≡ puts (up_to room.old at) (lineText letters.now list.now) }
-{
-    let named = word(room, at, letters);
-    let told = numbers(room, named, list);
-    byte(room, told, 10)
-}
-
-// The text that ends at `at`.
-pub fn so_far(room: &[u8], at: usize) -> &[u8]
-    ensures { result.now ≡ take at room.now }
-{
-    if room.len() <= at {
-        return room;
-    }
-    &room[..at]
+    &room[..end.min(room.len())]
 }

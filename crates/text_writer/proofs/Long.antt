@@ -5,7 +5,7 @@ use mathlib.Core.List.{List, [], ◌++◌, append_assoc}
 use Prim.Native.Nat.{ℕ, ◌+◌, ◌*◌, ◌≤◌, ◌<◌}
 use native.Mathlib.Omega.{arith}
 use lib.ListN.{length, drop, length-append, drop_of_length-le}
-use Rattle.words.specs.declared.Verdict.TheVariants.{Done}
+use Rattle.std.specs.Prelude.{Ok}
 use Rattle.job.specs.declared.Head.{Head}
 use Rattle.job.specs.Job.{job_length, f_in, c_in, m_in, n_in, head_in, first_in, second_in, nets_in}
 use Rattle.job.specs.Check.{job_verdict, WellFormed}
@@ -52,7 +52,7 @@ module _ (job : List ℕ) (h : Head) (well : WellFormed job h) where
   text_long = ap length text_is ∙ length-append (board_text h.f h.c h.m ++ count_text h.n) (nets_text (nets_in job))
 
 -- No text of a job is longer.
-pub text_most : (job : List ℕ) → job_verdict job ≡ Done → length (text_in job) ≤ most_text
+pub text_most : (job : List ℕ) → job_verdict job ≡ Ok tt → length (text_in job) ≤ most_text
 text_most job done =
     let well = passes job done in let r = well.ranged in
     let long = right_long job (head_in job) well in

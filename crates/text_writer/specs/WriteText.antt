@@ -1,7 +1,6 @@
 -- The text writer: a job to its text, in lent room.
 use Rattle.std.specs.Prelude.{List, ℕ, length}
-use Rattle.words.specs.declared.Verdict.{Verdict}
-use Rattle.words.specs.Verdict.{too_short, ◌then◌}
+use Rattle.words.specs.Verdict.{Verdict, too_short, ◌then◌}
 use Rattle.job.specs.Job.{f_in, c_in, m_in, n_in, nets_in}
 use Rattle.job.specs.Check.{job_verdict}
 use Rattle.form.specs.Form.{text_of}

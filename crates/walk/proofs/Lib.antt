@@ -1,4 +1,4 @@
 -- The laws that the proofs of `walk` cite.
 pub mod Two
 pub mod Round
-pub mod Region
+pub mod Labelling

@@ -1,9 +1,6 @@
 -- The states of a walk round a cycle of two pairings P and Q, over labels X.
-use Rattle.std.specs.Prelude.{◌≡◌, List, ℕ, ◌+◌, ◌<◌}
-use Rattle.laws.specs.Sum.{sum}
-use Rattle.laws.specs.Part.{part, Kept}
+use Rattle.std.specs.Prelude.{◌≡◌, List, ℕ, ◌+◌, ◌<◌, length}
 use Rattle.laws.specs.Row.{at}
-use Rattle.laws.specs.Matching.{is}
 use Rattle.walk.specs.Walk.{Matched}
 
 -- what stands for a label that is still to come
@@ -35,26 +32,8 @@ pub record Walking (n : ℕ) (P Q X : ℕ → ℕ) (s t : ℕ) : Type 0 where
   pub t_in : t < n
   pub head : WalkAt Q X s t
 
--- a walk from a stands at t
-pub record Standing (s : List ℕ) (p q x n a t : ℕ) : Type 0 where
-  pub matched : Matched s p q x n
-  pub inside : t < n
-  pub walking : Walking n (at (part s p n)) (at (part s q n)) (at (part s x n)) a t
-
--- a step from s₀ leads to s, at t
-pub record Stepping (s₀ s : List ℕ) (p q x n a t : ℕ) : Type 0 where
-  pub standing : Standing s p q x n a t
-  pub kept : Kept s₀ s x n
-  pub more : Grown (at (part s₀ x n)) (at (part s x n))
-  pub fewer : sum (is (at (part s x n)) no_label) n < sum (is (at (part s₀ x n)) no_label) n
-
 -- whole cycles are labelled, and every item below a
-pub record Passing (s : List ℕ) (p q x n a : ℕ) : Type 0 where
-  pub matched : Matched s p q x n
-  pub state : State n (at (part s p n)) (at (part s q n)) (at (part s x n))
-  pub done : (i : ℕ) → i < a → at (part s x n) i ≡ no_label → ⊥
-
--- the same, come from s₀
-pub record Visited (s₀ s : List ℕ) (p q x n a : ℕ) : Type 0 where
-  pub passing : Passing s p q x n a
-  pub kept : Kept s₀ s x n
+pub record Passing (p q labels : List ℕ) (a : ℕ) : Type 0 where
+  pub matched : Matched p q labels
+  pub state : State (length p) (at p) (at q) (at labels)
+  pub done : (i : ℕ) → i < a → at labels i ≡ no_label → ⊥

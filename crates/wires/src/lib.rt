@@ -3,39 +3,37 @@
 
 ghost use Rattle.std.specs.Prelude.{◌≡◌, ◌≤◌};
 ghost use Rattle.board.specs.Board.{limit, usable, deal};
-ghost use Rattle.job.specs.Job.{job_in};
-ghost use Rattle.job.specs.Check.{WellFormed};
+ghost use Rattle.job.specs.Board.{board_of};
 
-use job::Head;
+use job::Job;
 
 // The usable width at FPGA v. Whoever needs a width asks here.
-pub fn width_of(job: &[u8], head: Head, v: usize) -> usize
-    requires { WellFormed job.now head }
-    ensures { (result ≡ (job_in job.now).width v) × (result ≤ 64) }
+pub fn width_of(job: &Job, v: usize) -> usize
+    ensures value { result ≡ (board_of job.now).width v }
+    ensures bound { result ≤ 64 }
 {
-    head.width
+    job.head.width
 }
 
 // How many nets may end at FPGA v.
-pub fn limit_of(job: &[u8], head: Head, v: usize) -> usize
-    requires { WellFormed job.now head }
-    ensures { (result ≡ limit (job_in job.now) v) × (result ≤ 8192) }
+pub fn limit_of(job: &Job, v: usize) -> usize
+    ensures value { result ≡ limit (board_of job.now) v }
+    ensures bound { result ≤ 8192 }
 {
-    width_of(job, head, v) * head.c
+    width_of(job, v) * job.head.c
 }
 
 // Crossbar x can be used.
-pub fn can_use(job: &[u8], head: Head, x: usize) -> bool
-    requires { WellFormed job.now head }
-    ensures { result ≡ usable (job_in job.now) x }
+pub fn can_use(job: &Job, x: usize) -> bool
+    ensures { result ≡ usable (board_of job.now) x }
 {
-    x < head.c
+    x < job.head.c
 }
 
 // The crossbar that net i is dealt.
-pub fn dealt_to(job: &[u8], head: Head, i: usize) -> usize
-    requires { WellFormed job.now head }
-    ensures { (result ≡ deal (job_in job.now) i) × (result ≤ 127) }
+pub fn dealt_to(job: &Job, i: usize) -> usize
+    ensures value { result ≡ deal (board_of job.now) i }
+    ensures bound { result ≤ 127 }
 {
-    i % head.c
+    i % job.head.c
 }

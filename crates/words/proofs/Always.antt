@@ -1,32 +1,32 @@
 -- What holds of a verdict's refusal, whichever of its checks gives it.
 -- Assumes nothing.
+use Rattle.words.specs.declared.Reason.{Reason}
 use mathlib.Core.Path.{◌≡◌, refl}
 use mathlib.Core.Bool.{Bool, true, false}
 use Prim.Native.Nat.{ℕ, zero, suc, ◌<◌}
 use native.Mathlib.Omega.{arith}
 use Rattle.words.specs.declared.Place.{Place}
 use Rattle.words.specs.declared.Refusal.{Refusal}
-use Rattle.words.specs.declared.Verdict.{Verdict}
-use Rattle.words.specs.declared.Verdict.TheVariants.{Done, Refused}
-use Rattle.words.specs.Verdict.{refuse_if, ◌then◌, first_refusal}
+use Rattle.words.specs.Verdict.{Verdict, refuse_if, ◌then◌, first_refusal}
+use Rattle.std.specs.Prelude.{Ok, Err}
 
 abbrev pub OfRefusal : (Refusal → Type 0) → Verdict → Type 0
-OfRefusal P Done = Unit
-OfRefusal P (Refused r) = P r
+OfRefusal P (Ok _) = Unit
+OfRefusal P (Err r) = P r
 
 pub record Always (P : Refusal → Type 0) (v : Verdict) : Type 0 where
   pub holds : OfRefusal P v
 
 module _ {P : Refusal → Type 0} where
-  pub always_if : (b : Bool) (k : ℕ) (place : Place) → (b ≡ true → P (record { number = k; place = place })) → Always P (refuse_if b k place)
+  pub always_if : (b : Bool) (k : Reason) (place : Place) → (b ≡ true → P (record { reason = k; place = place })) → Always P (refuse_if b k place)
   unfolding refuse_if
   always_if true k place h = record { holds = h refl }
   always_if false k place h = record { holds = tt }
 
-  pub always_then : (u v : Verdict) → Always P u → (u ≡ Done → Always P v) → Always P (u then v)
+  pub always_then : (u v : Verdict) → Always P u → (u ≡ Ok tt → Always P v) → Always P (u then v)
   unfolding ◌then◌
-  always_then Done v h g = g refl
-  always_then (Refused r) v h g = h
+  always_then (Ok _) v h g = g refl
+  always_then (Err r) v h g = h
 
   pub always_first : (g : ℕ → Verdict) (n : ℕ) → ((i : ℕ) → i < n → Always P (g i)) → Always P (first_refusal g n)
   unfolding first_refusal

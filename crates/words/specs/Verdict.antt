@@ -1,11 +1,37 @@
--- A verdict is done, or a refusal: its number and its place. Of several faults the first in a fixed order is given.
-use Rattle.std.specs.Prelude.{Bool, true, false, ℕ, zero, suc, ltb}
+-- A verdict is done, or a refusal: its reason, with that one's number, and its place. Of several faults the first in a fixed order is given.
+use Rattle.std.specs.Prelude.{Bool, true, false, ℕ, zero, suc, ltb, Result, Ok, Err}
 use Rattle.words.specs.declared.Place.{Place}
 use Rattle.words.specs.declared.Place.TheVariants.{Byte, Net, End, Fpga, Crossbar, Load, Length, Line, Nowhere}
-use Rattle.words.specs.declared.Verdict.{Verdict}
-use Rattle.words.specs.declared.Verdict.TheVariants.{Done, Refused}
-use Rattle.words.specs.declared.Written.{Written}
-use Rattle.words.specs.declared.Written.TheVariants as written
+use Rattle.words.specs.declared.Reason.{Reason}
+use Rattle.words.specs.declared.Reason.TheVariants as reason
+use Rattle.words.specs.declared.Refusal.{Refusal}
+
+-- ---- the reasons
+
+-- the number of each in document 01
+abbrev pub number_for : Reason → ℕ
+number_for reason.JobShort = 1
+number_for reason.BoardCount = 2
+number_for reason.FpgaCount = 3
+number_for reason.CrossbarCount = 4
+number_for reason.WireCount = 5
+number_for reason.LoneWire = 6
+number_for reason.NetCount = 7
+number_for reason.JobLong = 8
+number_for reason.FirstEnd = 9
+number_for reason.SameEnd = 10
+number_for reason.RoomShort = 11
+number_for reason.Degree = 12
+number_for reason.Start = 13
+number_for reason.SheetLength = 21
+number_for reason.SheetHead = 22
+number_for reason.SheetCrossbar = 23
+number_for reason.Load = 24
+number_for reason.Spread = 25
+number_for reason.WrittenTotal = 26
+number_for reason.SecondEnd = 27
+number_for reason.TextBreaks = 31
+number_for reason.TextGoesOn = 32
 
 -- ---- the places
 
@@ -63,44 +89,53 @@ place_q Nowhere = 0
 
 -- ---- the verdicts
 
-abbrev pub refuse : ℕ → Place → Verdict
-refuse k place = Refused (record { number = k; place = place })
+abbrev pub Verdict : Type 0
+Verdict = Result Unit Refusal
+
+abbrev pub refuse : Reason → Place → Verdict
+refuse k place = Err (record { reason = k; place = place })
 
 -- what a verdict is in numbers: the refusal's number, or 0; then p and q
 abbrev pub number_of : Verdict → ℕ
-number_of Done = 0
-number_of (Refused r) = r.number
+number_of (Ok _) = 0
+number_of (Err r) = number_for r.reason
 
 abbrev pub p_of : Verdict → ℕ
-p_of Done = 0
-p_of (Refused r) = place_p r.place
+p_of (Ok _) = 0
+p_of (Err r) = place_p r.place
 
 abbrev pub q_of : Verdict → ℕ
-q_of Done = 0
-q_of (Refused r) = place_q r.place
+q_of (Ok _) = 0
+q_of (Err r) = place_q r.place
 
 -- refused where the test holds
-unfoldable pub refuse_if : Bool → ℕ → Place → Verdict
+unfoldable pub refuse_if : Bool → Reason → Place → Verdict
 refuse_if true k place = refuse k place
-refuse_if false k place = Done
+refuse_if false k place = Ok tt
 
 -- 11: what is lent is shorter than it must be
 abbrev pub too_short : ℕ → ℕ → Verdict
-too_short long least = refuse_if (ltb long least) 11 nowhere
+too_short long least = refuse_if (ltb long least) reason.RoomShort nowhere
 
 -- the first verdict, unless it is done: then the second
 infixr 5 ◌then◌
 unfoldable pub ◌then◌ : Verdict → Verdict → Verdict
-◌then◌ Done v = v
-◌then◌ (Refused r) v = Refused r
+◌then◌ (Ok _) v = v
+◌then◌ (Err r) v = Err r
 
 -- the first refusal among g 0, g 1, .., g (n - 1)
 unfoldable pub first_refusal : (ℕ → Verdict) → ℕ → Verdict
-first_refusal g zero = Done
+first_refusal g zero = Ok tt
 first_refusal g (suc n) = first_refusal g n then g n
 
--- ---- what a call that writes to lent room answers
+-- ---- an answer
 
-abbrev pub written_by : Verdict → ℕ → Written
-written_by Done long = written.Long long
-written_by (Refused r) long = written.Refused r
+-- x, unless the verdict is a refusal
+abbrev pub answer : {A : Type 0} → Verdict → A → Result A Refusal
+answer (Ok _) x = Ok x
+answer (Err r) x = Err r
+
+-- what an answer says of refusal
+abbrev pub verdict_of : {A : Type 0} → Result A Refusal → Verdict
+verdict_of (Ok x) = Ok tt
+verdict_of (Err r) = Err r

@@ -2,24 +2,24 @@
 #![tactic(auto)]
 
 ghost use Rattle.std.specs.Prelude.{◌≡◌};
-ghost use Rattle.words.specs.Verdict.{refuse, number_of, p_of, q_of, written_by};
+ghost use Rattle.words.specs.Verdict.{place_p, place_q, number_of, p_of, q_of, refuse_if};
 
 pub mod number;
 
 // An FPGA's number, or how many FPGAs there are.
-#[derive(Clone, Copy)]
+#[derive(Clone, Copy, Debug, PartialEq, Eq, PartialOrd, Ord)]
 pub struct Fpga(pub u16);
 
 // A crossbar's number, or how many crossbars there are.
-#[derive(Clone, Copy)]
+#[derive(Clone, Copy, Debug, PartialEq, Eq, PartialOrd, Ord)]
 pub struct Crossbar(pub u16);
 
 // A net's number, or how many nets there are.
-#[derive(Clone, Copy)]
+#[derive(Clone, Copy, Debug, PartialEq, Eq, PartialOrd, Ord)]
 pub struct Net(pub u16);
 
 // What a refusal points at.
-#[derive(Clone, Copy)]
+#[derive(Clone, Copy, Debug, PartialEq, Eq)]
 pub enum Place {
     Byte(usize),
     Net(Net),
@@ -34,29 +34,103 @@ pub enum Place {
     Nowhere,
 }
 
-#[derive(Clone, Copy)]
+// Why a call is refused, under document 01's numbers.
+#[derive(Clone, Copy, Debug, PartialEq, Eq)]
+pub enum Reason {
+    // Job shorter than its head, or than its nets.
+    JobShort = 1,
+    // The board's count is not 3.
+    BoardCount = 2,
+    // F outside its range.
+    FpgaCount = 3,
+    // C outside its range.
+    CrossbarCount = 4,
+    // M outside its range.
+    WireCount = 5,
+    // M is 1.
+    LoneWire = 6,
+    // N outside its range.
+    NetCount = 7,
+    // Job longer than its nets.
+    JobLong = 8,
+    // The first number of a net, or of two that are asked about, at or above f.
+    FirstEnd = 9,
+    // The same FPGA twice.
+    SameEnd = 10,
+    // A lent buffer is too short.
+    RoomShort = 11,
+    // A degree above the limit.
+    Degree = 12,
+    // A crossbar number in a lent assignment that cannot be used.
+    Start = 13,
+    // A sheet of another length.
+    SheetLength = 21,
+    // A sheet that begins otherwise than the job.
+    SheetHead = 22,
+    // A crossbar number in a sheet that cannot be used.
+    SheetCrossbar = 23,
+    // A load above the width.
+    Load = 24,
+    // A spread above 1.
+    Spread = 25,
+    // A written total is wrong.
+    WrittenTotal = 26,
+    // The second number of a net, or of two, at or above f.
+    SecondEnd = 27,
+    // A text that breaks the form.
+    TextBreaks = 31,
+    // A text that goes on behind its form.
+    TextGoesOn = 32,
+}
+
+#[derive(Clone, Copy, Debug, PartialEq, Eq)]
 pub struct Refusal {
-    pub number: u16,
+    pub reason: Reason,
     pub place: Place,
 }
 
-#[derive(Clone, Copy)]
-pub enum Verdict {
-    Done,
-    Refused(Refusal),
+// Done, or refused.
+pub type Verdict = Result<(), Refusal>;
+
+impl Place {
+    // The first of its two numbers; 0 where there is none.
+    pub fn p(self) -> usize
+        ensures { result ≡ place_p self }
+    {
+        match self {
+            Place::Byte(i) => i,
+            Place::Net(i) => i.0 as usize,
+            Place::End(i, _) => i.0 as usize,
+            Place::Fpga(v) => v.0 as usize,
+            Place::Crossbar(x) => x.0 as usize,
+            Place::Load(v, _) => v.0 as usize,
+            Place::Length(n) => n,
+            Place::Line(line, _) => line,
+            Place::Nowhere => 0,
+        }
+    }
+
+    // The second.
+    pub fn q(self) -> usize
+        ensures { result ≡ place_q self }
+    {
+        match self {
+            Place::End(_, at) => at,
+            Place::Load(_, x) => x.0 as usize,
+            Place::Line(_, byte) => byte,
+            _ => 0,
+        }
+    }
 }
 
-// What a call that writes to lent room answers: how much stands at its front now, bytes of a file or numbers of a list.
-#[derive(Clone, Copy)]
-pub enum Written {
-    Long(usize),
-    Refused(Refusal),
-}
-
-pub fn refuse(number: u16, place: Place) -> Verdict
-    ensures { result ≡ refuse number place }
+// Refused for this reason where the test holds.
+pub fn refuse_if(test: bool, reason: Reason, place: Place) -> Verdict
+    ensures { result ≡ refuse_if test reason place }
 {
-    Verdict::Refused(Refusal { number, place })
+    if test {
+        return Err(Refusal { reason, place });
+    }
+    Ok(())
 }
 
 // The refusal's number, or 0 where there is none.
@@ -64,8 +138,8 @@ pub fn number_of(v: Verdict) -> u16
     ensures { result ≡ number_of v }
 {
     match v {
-        Verdict::Done => 0,
-        Verdict::Refused(r) => r.number,
+        Ok(()) => 0,
+        Err(refusal) => refusal.reason as u16,
     }
 }
 
@@ -74,21 +148,8 @@ pub fn p_of(v: Verdict) -> usize
     ensures { result ≡ p_of v }
 {
     match v {
-        Verdict::Done => 0,
-        Verdict::Refused(r) => {
-            let place = r.place;
-            match place {
-                Place::Byte(i) => i,
-                Place::Net(i) => i.0 as usize,
-                Place::End(i, _) => i.0 as usize,
-                Place::Fpga(v) => v.0 as usize,
-                Place::Crossbar(x) => x.0 as usize,
-                Place::Load(v, _) => v.0 as usize,
-                Place::Length(n) => n,
-                Place::Line(line, _) => line,
-                Place::Nowhere => 0,
-            }
-        }
+        Ok(()) => 0,
+        Err(refusal) => refusal.place.p(),
     }
 }
 
@@ -97,30 +158,7 @@ pub fn q_of(v: Verdict) -> usize
     ensures { result ≡ q_of v }
 {
     match v {
-        Verdict::Done => 0,
-        Verdict::Refused(r) => {
-            let place = r.place;
-            match place {
-                Place::End(_, at) => at,
-                Place::Load(_, x) => x.0 as usize,
-                Place::Line(_, byte) => byte,
-                Place::Byte(_) => 0,
-                Place::Net(_) => 0,
-                Place::Fpga(_) => 0,
-                Place::Crossbar(_) => 0,
-                Place::Length(_) => 0,
-                Place::Nowhere => 0,
-            }
-        }
-    }
-}
-
-// So much was written, unless the verdict is a refusal.
-pub fn written_by(v: Verdict, long: usize) -> Written
-    ensures { result ≡ written_by v long }
-{
-    match v {
-        Verdict::Done => Written::Long(long),
-        Verdict::Refused(r) => Written::Refused(r),
+        Ok(()) => 0,
+        Err(refusal) => refusal.place.q(),
     }
 }

@@ -3,24 +3,12 @@ ghost use Rattle.std.specs.Prelude.{◌≡◌, ◌+◌, ◌*◌, ◌≤◌, ◌<
 ghost use Rattle.words.specs.Number.{word, bytes, numbers, put_word};
 ghost use Rattle.words.specs.Lent.{onto};
 
-pub fn wide(x: u16) -> usize
-    ensures { (result ≡ x) × (result < 65536) }
-{
-    x as usize
-}
-
-fn low(b: u8) -> u16
-    ensures { (result ≡ b) × (result < 256) }
-{
-    b as u16
-}
-
 // The number at byte i.
 pub fn read(s: &[u8], i: usize) -> u16
     requires { i + 1 < length s.now }
     ensures { result ≡ word s.now i }
 {
-    256 * low(s[i]) + low(s[i + 1])
+    u16::from_be_bytes([s[i], s[i + 1]])
 }
 
 // Writes the number to byte i and the next.
@@ -28,8 +16,9 @@ pub fn write(room: &mut [u8], i: usize, x: u16)
     requires { i + 1 < length room.old }
     ensures { room.new ≡ put_word room.old i x }
 {
-    room[i] = (x / 256) as u8;
-    room[i + 1] = (x % 256) as u8;
+    let [high, low] = x.to_be_bytes();
+    room[i] = high;
+    room[i + 1] = low;
 }
 
 // Writes a list of numbers to the front of the room.
@@ -37,10 +26,8 @@ pub fn write_list(room: &mut [u8], xs: &[u16])
     requires { 2 * length xs.now ≤ length room.old }
     ensures { room.new ≡ onto (bytes xs.now) room.old }
 {
-    let mut i: usize = 0;
-    while i < xs.len() {
-        write(room, 2 * i, xs[i]);
-        i += 1;
+    for (i, x) in xs.iter().enumerate() {
+        write(room, 2 * i, *x);
     }
 }
 
@@ -57,9 +44,7 @@ pub fn read_list(s: &[u8], out: &mut [u16])
     requires { 2 * length out.old ≤ length s.now }
     ensures { out.new ≡ take (length out.old) (numbers s.now) }
 {
-    let mut i: usize = 0;
-    while i < out.len() {
+    for i in 0..out.len() {
         out[i] = read(s, 2 * i);
-        i += 1;
     }
 }

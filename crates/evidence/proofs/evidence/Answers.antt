@@ -1,15 +1,14 @@
 -- `evidence::evidence` meets its contract.
-use Rattle.evidence.proofs.Inside.{audit_inside}
+use Rattle.std.proofs.Common.{rules}
+use native.Mathlib.Omega.{arith}
+use Rattle.evidence.proofs.Inside.{found_inside, in_file_fits}
 use Rattle.evidence.proofs.evidence.Goals as goal
 
-pub stretch-requires : goal.stretch-requires
-stretch-requires c = let a = c.args in rw c.if-fault.true at (rw (← c.find_fault-fault.ensures) at (audit_inside a.job.now a.sheet.now))
+pub overflow_add-end : goal.overflow_add-end
+overflow_add-end c = let fits = in_file_fits _ c.args.job.now c.args.sheet.now _ 18446744073709551616 (found_inside _ _ _ c.find_fault-fault.ensures) (omega arith) (omega arith) in search rules
 
-pub returns-then-fault : goal.returns-then-fault
-returns-then-fault c = rw (← c.find_fault-fault.ensures, c.if-fault.true) c.stretch.ensures
+pub slice_bounds-result-end : goal.slice_bounds-result-end
+slice_bounds-result-end c = let inside = rw c.in-Job.is at (found_inside _ _ _ c.find_fault-fault.ensures) in search rules
 
-pub stretch-requires-2 : goal.stretch-requires-2
-stretch-requires-2 c = let a = c.args in rw c.if-fault.false at (rw (← c.find_fault-fault.ensures) at (audit_inside a.job.now a.sheet.now))
-
-pub returns : goal.returns
-returns c = rw (← c.find_fault-fault.ensures, c.if-fault.false) c.stretch-2.ensures
+pub slice_bounds-result-end-in-Sheet : goal.slice_bounds-result-end-in-Sheet
+slice_bounds-result-end-in-Sheet c = let inside = rw c.in-Sheet.is at (found_inside _ _ _ c.find_fault-fault.ensures) in search rules

@@ -1,17 +1,24 @@
 -- `evidence::job_fault` meets its contract.
-use Rattle.evidence.proofs.Pointing.{one_of_9, one_of_27, both_of_10, job_elsewhere}
+use Rattle.std.proofs.Common.{rules}
 use mathlib.Core.Path.{sym, ◌∙◌}
+use Rattle.evidence.specs.Evidence.{job_fault}
+use Rattle.evidence.proofs.Pointing.{job_elsewhere, job_otherwise}
 use Rattle.evidence.proofs.job_fault.Goals as goal
+use Rattle.evidence.proofs.job_fault.Goals.{in_default-via-in-FirstEnd+in_default, in_default-via-in-SameEnd+in_default, in_default-via-in_default}
 
-pub returns-then-number-eq9 : goal.returns-then-number-eq9
-returns-then-number-eq9 c = c.in_job-wrong.ensures ∙ sym (one_of_9 _ _ _ _ c.in-End.is c.if-number-eq9.true)
+pub returns-in-FirstEnd-End : goal.returns-in-FirstEnd-End
+unfolding job_fault
+returns-in-FirstEnd-End c = search rules
 
-pub returns-then-number-eq27 : goal.returns-then-number-eq27
-returns-then-number-eq27 c = c.in_job-wrong.ensures ∙ sym (one_of_27 _ _ _ _ c.in-End.is c.if-number-eq27.true)
-
-pub returns-else-number-eq27 : goal.returns-else-number-eq27
-returns-else-number-eq27 c = let both = rw (c.first_at.ensures, c.wide.ensures.0, c.nets_at.ensures.0) at c.in_job-both.ensures in
-    c.fault_if.ensures ∙ sym (both_of_10 _ _ _ _ c.in-End.is c.if-number-eq9.false c.if-number-eq27.false _ both)
+pub returns-in-SameEnd-End : goal.returns-in-SameEnd-End
+unfolding job_fault
+returns-in-SameEnd-End c = search rules
 
 pub returns-in_default : goal.returns-in_default
-returns-in_default c = c.nothing.ensures ∙ sym (job_elsewhere _ _ c.in_default.not-End)
+returns-in_default c =
+    c.nothing.ensures
+    ∙ sym (elim c.in_default.branch [
+      | in_default-via-in-FirstEnd+in_default w ↦ job_elsewhere _ _ w.in_default.not-End-1
+      | in_default-via-in-SameEnd+in_default w ↦ job_elsewhere _ _ w.in_default.not-End-1
+      | in_default-via-in_default w ↦ job_otherwise _ _ (λ e i at q. search rules) (λ e i at q. search rules) (λ e i at q. search rules)
+    ])

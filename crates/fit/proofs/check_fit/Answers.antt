@@ -1,37 +1,44 @@
 -- `fit::check_fit` meets its contract.
+use borrow.Author.Rules.{rules}
+use native.Mathlib.Omega.{arith}
+use mathlib.Core.Path.{sym, ◌∙◌}
+use Rattle.words.specs.Verdict.{◌then◌}
+use Rattle.laws.specs.Row.{at}
 use Rattle.refusals.proofs.Faults.{range_says}
-use Rattle.tally.proofs.Walks.{crossbar_low}
-use Rattle.words.proofs.Order.{then_refused, then_next}
-use Rattle.job.specs.Job.{job_in}
+use Rattle.job.specs.Board.{board_of}
 use Rattle.fit.specs.Fit.{fit_verdict}
 use Rattle.fit.proofs.Parts.{counted_spread}
-use native.Mathlib.Omega.{arith}
-use Prim.Native.Nat.{ℕ}
-use mathlib.Core.Path.{◌≡◌, refl, sym, ◌∙◌}
 use Rattle.fit.proofs.check_fit.Goals as goal
 
-pub returns-in-Refused : goal.returns-in-Refused
-unfolding fit_verdict
-returns-in-Refused c = let told = c.in-Refused.is in
-    record { value = told ∙ sym (then_refused _ _ _ (sym c.check_range-range.ensures ∙ told)); counted = λ done. let z : ◌≡◌ {A = ℕ} 0 1 = cc in absurd (omega arith) }
+pub returns-in_err-check_range-clause-verdict : goal.returns-in_err-check_range-clause-verdict
+unfolding fit_verdict ◌then◌
+returns-in_err-check_range-clause-verdict c = search rules
 
-pub check_loads-loads-requires : goal.check_loads-loads-requires
-check_loads-loads-requires c = record { well_formed = c.requires; in_range = (range_says _ _ _).0 (sym c.check_range-range.ensures ∙ c.in_default.is) }
+pub check_loads-requires-clause-in_range : goal.check_loads-requires-clause-in_range
+check_loads-requires-clause-in_range c = (range_says _ _ _).0 (sym c.check_range.ensures ∙ c.in_ok-check_range.was)
 
-pub returns-in-Refused-loads : goal.returns-in-Refused-loads
-unfolding fit_verdict
-returns-in-Refused-loads c = let told = c.in-Refused-loads.is in
-    record { value = told ∙ sym (then_next _ _ (sym c.check_range-range.ensures ∙ c.in_default.is) ∙ then_refused _ _ _ (sym c.check_loads-loads.ensures ∙ told)); counted = λ done. let z : ◌≡◌ {A = ℕ} 0 1 = cc in absurd (omega arith) }
+pub returns-in_err-check_loads-clause-verdict : goal.returns-in_err-check_loads-clause-verdict
+unfolding fit_verdict ◌then◌
+returns-in_err-check_loads-clause-verdict c = search rules
 
-pub totals_of-counted-requires : goal.totals_of-counted-requires
-totals_of-counted-requires c = let p = c.requires in
-    record { n_bound = (p.0.ranged.n_high, p.1); by_index = λ i l. crossbar_low _ _ p.0 _ ((range_says _ _ _).0 (sym c.check_range-range.ensures ∙ c.in_default.is)) i l _ refl }
+pub totals_of-totals-requires-clause-in_range : goal.totals_of-totals-requires-clause-in_range
+totals_of-totals-requires-clause-in_range c = let p = c.args.job.now.well_formed in
+    let told = (range_says (board_of c.args.job.now) (at c.args.plan.now) c.args.reason).0 (sym c.check_range.ensures ∙ c.in_ok-check_range.was) in
+    λ i l. omega (arith, told i (omega arith))
 
-pub returns : goal.returns
-unfolding fit_verdict
-returns c = let p = c.requires.0 in
-    let counted = c.totals_of-counted.ensures (job_in c.args.job.now) (sym p.n) in record {
-      value = c.check_spread.ensures ∙ counted_spread _ _ counted _ p.ranged.c_high p.c
-          ∙ sym (then_next _ _ (sym c.check_range-range.ensures ∙ c.in_default.is) ∙ then_next _ _ (sym c.check_loads-loads.ensures ∙ c.in_default-loads.is));
-      counted = λ done. counted;
-    }
+pub returns-in_err-check_spread-clause-verdict : goal.returns-in_err-check_spread-clause-verdict
+unfolding fit_verdict ◌then◌
+returns-in_err-check_spread-clause-verdict c = let job = c.args.job.now in
+    let p = job.well_formed in
+    let told = c.check_spread.ensures ∙ counted_spread _ _ (c.totals_of-totals.ensures (board_of job) (sym p.n)) _ p.ranged.c_high p.c in
+    search rules
+
+pub returns-clause-verdict : goal.returns-clause-verdict
+unfolding fit_verdict ◌then◌
+returns-clause-verdict c = let job = c.args.job.now in
+    let p = job.well_formed in
+    let told = c.check_spread.ensures ∙ counted_spread _ _ (c.totals_of-totals.ensures (board_of job) (sym p.n)) _ p.ranged.c_high p.c in
+    search rules
+
+pub returns-clause-counted : goal.returns-clause-counted
+returns-clause-counted c = c.totals_of-totals.ensures (board_of c.args.job.now) (sym c.args.job.now.well_formed.n)

@@ -1,22 +1,18 @@
 -- `job_writer::check_ends` meets its contract.
 use Rattle.job.proofs.Nets.{nets_none, nets_pass, nets_stop}
+use borrow.Author.Rules.{rules}
 use native.Mathlib.Omega.{arith}
-use mathlib.Core.Path.{◌≡◌, sym, ◌∙◌}
+use mathlib.Core.Path.{refl, sym, ◌∙◌}
 use Rattle.job_writer.proofs.check_ends.Goals as goal
 
 pub loop-i-init : goal.loop-i-init
-loop-i-init c = (omega arith, nets_none _ _ _ _)
+loop-i-init c = nets_none _ _ _ _
 
-pub returns-in-Refused : goal.returns-in-Refused
-returns-in-Refused c = let l = c.loop-i in
-    let told = c.in-Refused.is in
-    told ∙ sym (nets_stop _ _ _ _ l.i _ _ c.wide-v.ensures.0 c.wide-w.ensures.0 l.invariant.1 _ _ (omega arith) (sym c.check_net-found.ensures ∙ told))
+pub returns-in_err-check_net : goal.returns-in_err-check_net
+returns-in_err-check_net c = let l = c.loop-i in
+    let said = nets_stop _ _ _ _ l.i _ _ refl refl l.invariant c.args.n _ (omega arith) (sym c.check_net.ensures ∙ c.in_err-check_net.was) in
+    search rules
 
 pub loop-i-preserved : goal.loop-i-preserved
 loop-i-preserved c = let l = c.loop-i in
-    (omega arith, nets_pass _ _ _ _ l.i _ _ c.wide-v.ensures.0 c.wide-w.ensures.0 l.invariant.1 (sym c.check_net-found.ensures ∙ c.in_default.is))
-
-pub returns : goal.returns
-returns c = let l = c.loop-i in
-    let e : l.i ≡ c.args.n = omega arith in
-    sym (rw e at l.invariant.1)
+    nets_pass _ _ _ _ l.i _ _ refl refl l.invariant (sym c.check_net.ensures ∙ c.in_ok-check_net.was)

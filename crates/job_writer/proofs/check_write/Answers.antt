@@ -1,28 +1,30 @@
 -- `job_writer::check_write` meets its contract.
-use Rattle.job_writer.proofs.Writing.{write_out_of_range, too_few, too_small, by_ends}
-use Rattle.job.proofs.Stages.{ranged}
-use native.Mathlib.Omega.{arith}
+use borrow.Author.Rules.{rules}
 use mathlib.Core.Path.{sym, ◌∙◌}
+use Rattle.words.specs.Verdict.{◌then◌}
+use Rattle.words.proofs.Order.{long_enough}
+use Rattle.job.proofs.Stages.{ranged}
+use Rattle.job_writer.specs.Write.{write_verdict}
 use Rattle.job_writer.proofs.check_write.Goals as goal
 
-pub returns-in-Refused : goal.returns-in-Refused
-returns-in-Refused c = let told = c.in-Refused.is in
-    told ∙ sym (write_out_of_range _ _ _ _ _ _ _ (sym c.check_ranges-ranges.ensures ∙ told))
+pub returns-in_err-check_ranges : goal.returns-in_err-check_ranges
+unfolding write_verdict ◌then◌
+returns-in_err-check_ranges c = search rules
 
-pub overflow_mul-count : goal.overflow_mul-count
-overflow_mul-count c = omega (arith, (ranged _ _ _ _ (sym c.check_ranges-ranges.ensures ∙ c.in_default.is)).n_high)
+pub returns-in_err-refuse_if : goal.returns-in_err-refuse_if
+unfolding write_verdict ◌then◌
+returns-in_err-refuse_if c = search rules
 
-pub returns-then-ends-count : goal.returns-then-ends-count
-returns-then-ends-count c = c.refuse.ensures ∙ sym (too_few _ _ _ _ _ _ (sym c.check_ranges-ranges.ensures ∙ c.in_default.is) (omega arith))
-
-pub written_length-requires : goal.written_length-requires
-written_length-requires c = omega (arith, (ranged _ _ _ _ (sym c.check_ranges-ranges.ensures ∙ c.in_default.is)).n_high)
-
-pub returns-then-room_length-written_length : goal.returns-then-room_length-written_length
-returns-then-room_length-written_length c = c.refuse-then-room_length-written_length.ensures ∙ sym (too_small _ _ _ _ _ _ (sym c.check_ranges-ranges.ensures ∙ c.in_default.is) (omega arith) (omega arith))
+pub returns-in_err-refuse_if-2 : goal.returns-in_err-refuse_if-2
+unfolding write_verdict ◌then◌
+returns-in_err-refuse_if-2 c = search rules
 
 pub check_ends-requires : goal.check_ends-requires
-check_ends-requires c = (omega arith, (ranged _ _ _ _ (sym c.check_ranges-ranges.ensures ∙ c.in_default.is)).n_high)
+check_ends-requires c = (
+  (long_enough _ _).0 (sym c.refuse_if.ensures ∙ c.in_ok-refuse_if.was),
+  (ranged _ _ _ _ (sym c.check_ranges.ensures ∙ c.in_ok-check_ranges.was)).n_high,
+)
 
 pub returns : goal.returns
-returns c = c.check_ends.ensures ∙ sym (by_ends _ _ _ _ _ _ (sym c.check_ranges-ranges.ensures ∙ c.in_default.is) (omega arith) (omega arith))
+unfolding write_verdict ◌then◌
+returns c = search rules

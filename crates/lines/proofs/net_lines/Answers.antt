@@ -1,15 +1,12 @@
 -- `lines::net_lines` meets its contract.
-use Rattle.text.proofs.Putting.{each_none, each_next, each_all}
-use native.Mathlib.Omega.{arith}
-use mathlib.Core.Path.{refl}
-use borrow.Author.Rules.{rules}
+use Rattle.text.proofs.Gaining.{gains_none_of, gains_next}
 use Rattle.lines.proofs.net_lines.Goals as goal
 
 pub loop-i-init : goal.loop-i-init
-loop-i-init c = (search rules, refl, each_none _ _)
+loop-i-init c = gains_none_of _ _
 
 pub loop-i-preserved : goal.loop-i-preserved
-loop-i-preserved c = (omega arith, omega arith, each_next _ _ _ _ _ c.loop-i.invariant.2 c.net_line-end.ensures)
-
-pub returns : goal.returns
-returns c = let l = c.loop-i in each_all _ _ _ l.i c.args.head.n (omega arith) l.invariant.2
+loop-i-preserved c =
+    let v = c.ends-v.ensures.first.0 in
+    let w = c.ends-v.ensures.second.0 in
+    gains_next _ _ _ _ _ c.loop-i.invariant (rw (v, w) at c.line.ensures)

@@ -5,6 +5,6 @@ use Rattle.lines.proofs.refusal_line.Goals as goal
 
 pub returns : goal.returns
 returns c = record {
-  result_after = refusal_told _ _ _ _ _ c.word-named.ensures c.verdict_text-told.ensures.result_after c.word.ensures;
-  r_len_bound = refusal_short _ c.verdict_text-told.ensures.v_len_bound;
+  gains = refusal_told _ _ _ _ _ c.word.ensures c.verdict_text.ensures.gains c.byte.ensures;
+  short = refusal_short _ c.verdict_text.ensures.short;
 }

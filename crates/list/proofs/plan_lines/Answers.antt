@@ -4,5 +4,4 @@ use Rattle.list.proofs.plan_lines.Goals as goal
 
 pub returns : goal.returns
 returns c =
-    plan_told _ _ _ _ c.requires.well_formed.0 c.totals_of-totals.ensures _ _ _ _ _ _ _ c.board_line-board.ensures c.rounds_line-rounds.ensures c.net_lines-nets.ensures
-    c.crossbar_lines.ensures
+    plan_told c.args.job.now _ _ c.totals_of-totals.ensures _ _ _ _ _ _ _ c.board_line.ensures c.rounds_line.ensures c.net_lines.ensures c.crossbar_lines.ensures

@@ -1,10 +1,8 @@
--- `pair::gather` meets its contract: the state is `Placed`, and each way through a turn is a law of `Placing`. Assumes nothing.
-use Prim.Native.Nat.{◌≤◌, ◌-◌}
-use Rattle.pair.specs.Making.{Placed}
+-- `pair::gather` meets its contract: each way through a turn is a law of `Gathering`. Assumes nothing.
+use lib.ListN.{length}
+use Rattle.laws.specs.Row.{at}
+use Rattle.pair.specs.Making.{PairedUpTo}
 use Rattle.pair.proofs.gather.Given as goal
 
 abbrev pub invariant-loop-i : goal.invariant-loop-i
-invariant-loop-i l = (l.i ≤ l.n) × Placed l.initial.s l.s l.fpgas l.mates l.n l.wait l.i
-
-abbrev pub decreases-loop-i : goal.decreases-loop-i
-decreases-loop-i l = l.n - l.i
+invariant-loop-i l = PairedUpTo (at l.fpgas) (length l.fpgas) l.mates l.wait l.i

@@ -1,12 +1,10 @@
--- `pair::pair` meets its contract: its three calls, one after another. Assumes nothing.
-use Rattle.pair.proofs.Placing.{blanked, ready_lent, pair_done}
+-- `pair::pair` meets its contract: its calls, one after another. Assumes nothing.
+use Rattle.pair.proofs.Gathering.{ready}
+use Rattle.pair.proofs.Sweeping.{pair_done}
 use Rattle.pair.proofs.pair.Goals as goal
 
-pub gather-wait-requires : goal.gather-wait-requires
-gather-wait-requires c = search blanked
-
 pub sweep-requires : goal.sweep-requires
-sweep-requires c = search (ready_lent, c.gather-wait.ensures, c.fill.ensures)
+sweep-requires c = rw c.gather-wait.ensures.made.long (ready _ _ _ _ c.requires.items c.gather-wait.ensures)
 
 pub returns : goal.returns
-returns c = search (pair_done, c.sweep.ensures, c.gather-wait.ensures, c.fill.ensures)
+returns c = pair_done _ _ _ _ c.gather-wait.ensures c.sweep.ensures

@@ -1,12 +1,7 @@
--- `pair::sweep` meets its contract: the state is `Swept`, and each way through a turn is a law of `Sweeping`. Assumes nothing.
-use Prim.Native.Nat.{◌-◌}
+-- `pair::sweep` meets its contract: each way through a turn is a law of `Sweeping`. Assumes nothing.
 use lib.ListN.{length}
-use Rattle.pair.specs.Pair.{fpga_count}
 use Rattle.pair.proofs.Sweeping.{Swept}
 use Rattle.pair.proofs.sweep.Given as goal
 
-abbrev pub invariant-loop-v : goal.invariant-loop-v
-invariant-loop-v l = Swept (length l.initial.mate) l.wait l.initial.mate l.mate l.carry l.v
-
-abbrev pub decreases-loop-v : goal.decreases-loop-v
-decreases-loop-v l = fpga_count - l.v
+abbrev pub invariant-loop-w : goal.invariant-loop-w
+invariant-loop-w l = Swept (length l.initial.mates) l.wait l.initial.mates l.mates l.carry l.w-index

@@ -1,16 +1,11 @@
--- `recolour::count_on` meets its contract: the state is `CountedOn`, one more net each turn. Assumes nothing.
-use Rattle.recolour.proofs.Collecting.{count_none, count_more, count_skip, count_all}
-use native.Mathlib.Omega.{arith}
+-- `recolour::count_on`: a count over the front of the list.
+use Rattle.std.proofs.Common.{◌≡◌, take, rules}
+use Rattle.std.specs.List.{count_by}
+use Rattle.board.specs.Rule.{on_two_test}
+use Rattle.recolour.proofs.Collecting.{count_first}
 use Rattle.recolour.proofs.count_on.Goals as goal
 
-pub loop-i-init : goal.loop-i-init
-loop-i-init c = (omega arith, search count_none)
-
-pub loop-i-preserved-then-on : goal.loop-i-preserved-then-on
-loop-i-preserved-then-on c = (omega arith, search count_more)
-
-pub loop-i-preserved : goal.loop-i-preserved
-loop-i-preserved c = (omega arith, search count_skip)
-
 pub returns : goal.returns
-returns c = search count_all
+returns c =
+    let counted : c.count.result ≡ count_by (on_two_test c.args.two.x c.args.two.y) (take c.args.job.now.head.n c.args.plan.now) = search rules in
+    rw counted (count_first _ _ _ _ c.requires)

@@ -1,10 +1,6 @@
--- `recolour::write_back` meets its contract: the state is `WrittenBack`, one more net each turn. Assumes nothing.
+-- `recolour::write_back`: the nets so far, `e` of them on x or y, are written back.
 use Rattle.recolour.specs.Steps.{WrittenBack}
-use Prim.Native.Nat.{◌≤◌, ◌-◌}
 use Rattle.recolour.proofs.write_back.Given as goal
 
-abbrev pub invariant-loop-i : goal.invariant-loop-i
-invariant-loop-i l = (l.i ≤ l.n) × WrittenBack l.initial.plan l.plan l.n l.x l.y l.s l.mark l.i l.e
-
-abbrev pub decreases-loop-i : goal.decreases-loop-i
-decreases-loop-i l = l.n - l.i
+abbrev pub invariant-loop-net : goal.invariant-loop-net
+invariant-loop-net l = WrittenBack l.initial.plan l.plan l.job.head.n l.two.x l.two.y l.s l.mark l.net l.e

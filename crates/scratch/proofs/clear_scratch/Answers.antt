@@ -5,4 +5,4 @@ use borrow.Author.Rules.{rules}
 use Rattle.scratch.proofs.clear_scratch.Goals as goal
 
 pub returns : goal.returns
-returns c = zeroed _ scratch_long _ (search rules) c.fill.ensures
+returns c = zeroed _ scratch_long _ (search rules) (c.fill.ensures.after (λ y e. e))

@@ -1,23 +1,13 @@
 -- `search::first_over` meets its contract.
-use Rattle.laws.proofs.FirstWhere.{first_less_here, first_less_on}
+use Rattle.std.proofs.Common.{rules}
+use borrow.Author.Tests.{tests}
+use lib.Dec.{ltb}
 use Rattle.laws.specs.Row.{at}
-use Rattle.laws.specs.Lowest.{first_where}
-use Rattle.job.specs.Job.{job_in}
-use native.Mathlib.Omega.{arith}
-use mathlib.Core.Path.{◌≡◌, refl, sym}
+use Rattle.job.specs.Board.{board_of}
+use Rattle.search.proofs.Below.{found_below}
 use Rattle.search.proofs.first_over.Goals as goal
 
-pub loop-v-init : goal.loop-v-init
-unfolding first_where
-loop-v-init c = (omega arith, refl)
-
-pub returns-then-width_of-wide : goal.returns-then-width_of-wide
-returns-then-width_of-wide c = let l = c.loop-v in let a = c.args in
-    sym (first_less_here (job_in a.job.now).width (at a.count) l.v _ l.invariant.1 (omega arith) (omega arith))
-
-pub loop-v-preserved : goal.loop-v-preserved
-loop-v-preserved c = let l = c.loop-v in let a = c.args in
-    (omega arith, first_less_on (job_in a.job.now).width (at a.count) l.v l.invariant.1 (omega arith))
-
 pub returns : goal.returns
-returns c = let l = c.loop-v in let e : l.v ≡ c.args.n = omega arith in rw (← e) (sym l.invariant.1)
+returns c =
+    found_below (λ v. ltb ((board_of c.args.job.now).width v) (at c.args.count v)) c.args.n _ _ c.find.result c.find.ensures.ran
+    (λ k q h. search (rules, tests)) (λ k q h. search (rules, tests))

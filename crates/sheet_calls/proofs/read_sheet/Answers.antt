@@ -1,25 +1,30 @@
 -- `sheet_calls::read_sheet` meets its contract.
-use Rattle.words.proofs.Order.{then_refused, then_next}
-use Rattle.job.proofs.Passing.{by_refused}
+use Rattle.std.proofs.Common.{rules}
+use native.Mathlib.Omega.{arith}
+use mathlib.Core.Path.{ap, sym, ◌∙◌}
+use borrow.Author.Tests.{ltb-false}
+use Rattle.words.specs.Verdict.{◌then◌, verdict_of}
+use Rattle.words.proofs.Order.{passed}
 use Rattle.audit.specs.Audit.{read_sheet_verdict}
 use Rattle.audit.proofs.Agree.{audited}
-use Rattle.sheet_calls.proofs.Answered.{audit_done, audit_passed}
-use native.Mathlib.Omega.{arith}
-use mathlib.Core.Path.{refl, sym, ◌∙◌}
 use Rattle.sheet_calls.proofs.read_sheet.Goals as goal
 
-pub read_lent-verdict-requires : goal.read_lent-verdict-requires
-read_lent-verdict-requires c = let e = c.audit_job-audited.ensures in
-    let q = c.in-Passed.is in
-    record { well_formed = audit_passed _ _ _ _ e q; job_in_bounds = omega (arith, (audited _ _ (audit_done _ _ _ _ e q)).long) }
+pub returns-in_err-audited : goal.returns-in_err-audited
+unfolding read_sheet_verdict ◌then◌
+returns-in_err-audited c = search rules
 
-pub returns-in-Refused : goal.returns-in-Refused
-unfolding read_sheet_verdict
-returns-in-Refused c = rw (then_refused _ _ _ (by_refused _ _ _ (sym c.audit_job-audited.ensures ∙ c.in-Refused.is))) (record { value = refl; plan_after = refl })
+pub returns-in_err-refuse_if : goal.returns-in_err-refuse_if
+unfolding read_sheet_verdict ◌then◌
+returns-in_err-refuse_if c = search rules
 
-pub returns-in-Passed : goal.returns-in-Passed
-unfolding read_sheet_verdict
-returns-in-Passed c = let e = c.audit_job-audited.ensures in
-    let q = c.in-Passed.is in
-    let w = c.read_lent-verdict.ensures in
-    rw (then_next _ _ (audit_done _ _ _ _ e q), ← w.value) (record { value = rw (audit_passed _ _ _ _ e q).n at c.written_by.ensures; plan_after = w.plan_after })
+pub numbers_of-requires-clause-sheet_is_long : goal.numbers_of-requires-clause-sheet_is_long
+numbers_of-requires-clause-sheet_is_long c =
+    let long = (audited _ _ (sym c.audit_job.ensures.verdict ∙ ap verdict_of c.in_ok-audited.was)).long in
+    rw c.in_ok-audited.ensures.bytes (omega arith)
+
+pub numbers_of-requires-clause-every_net : goal.numbers_of-requires-clause-every_net
+numbers_of-requires-clause-every_net c = ltb-false _ _ (passed _ _ _ (sym c.refuse_if.ensures ∙ c.in_ok-refuse_if.was))
+
+pub returns : goal.returns
+unfolding read_sheet_verdict ◌then◌
+returns c = search rules

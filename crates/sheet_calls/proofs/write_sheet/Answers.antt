@@ -1,21 +1,33 @@
 -- `sheet_calls::write_sheet` meets its contract.
-use Rattle.words.proofs.Order.{then_refused, then_next}
-use Rattle.job.proofs.Passing.{check_refused, check_done, check_passed}
+use Rattle.std.proofs.Common.{rules}
+use native.Mathlib.Omega.{arith}
+use mathlib.Core.Path.{sym, ◌∙◌}
+use Rattle.words.specs.Verdict.{◌then◌}
 use Rattle.audit.specs.Audit.{write_sheet_verdict}
-use mathlib.Core.Path.{refl}
+use Rattle.sheet_calls.proofs.Lending.{plan_is_long, room_is_long}
 use Rattle.sheet_calls.proofs.write_sheet.Goals as goal
 
-pub write_lent-verdict-requires : goal.write_lent-verdict-requires
-write_lent-verdict-requires c = check_passed _ _ c.check_job-checked.ensures _ c.in-Passed.is
+pub returns-in_err-checked : goal.returns-in_err-checked
+unfolding write_sheet_verdict ◌then◌
+returns-in_err-checked c = search rules
 
-pub sheet_length-requires : goal.sheet_length-requires
-sheet_length-requires c = check_passed _ _ c.check_job-checked.ensures _ c.in-Passed.is
+pub returns-in_err-check_lent : goal.returns-in_err-check_lent
+unfolding write_sheet_verdict ◌then◌
+returns-in_err-check_lent c = search rules
 
-pub returns-in-Refused : goal.returns-in-Refused
-unfolding write_sheet_verdict
-returns-in-Refused c = rw (then_refused _ _ _ (check_refused _ _ c.check_job-checked.ensures _ c.in-Refused.is)) (record { value = refl; room_after = refl })
+pub check_fit-requires : goal.check_fit-requires
+check_fit-requires c = omega (arith, plan_is_long _ _ _ (sym c.check_lent.ensures ∙ c.in_ok-check_lent.was))
 
-pub returns-in-Passed : goal.returns-in-Passed
-unfolding write_sheet_verdict
-returns-in-Passed c = let w = c.write_lent-verdict.ensures in
-    rw (then_next _ _ (check_done _ _ c.check_job-checked.ensures _ c.in-Passed.is), ← w.value) (record { value = rw c.sheet_length.ensures at c.written_by.ensures; room_after = w.room_after })
+pub put_sheet-requires-clause-every_net : goal.put_sheet-requires-clause-every_net
+put_sheet-requires-clause-every_net c = omega (arith, plan_is_long _ _ _ (sym c.check_lent.ensures ∙ c.in_ok-check_lent.was))
+
+pub put_sheet-requires-clause-room_is_long : goal.put_sheet-requires-clause-room_is_long
+put_sheet-requires-clause-room_is_long c = room_is_long _ _ _ (sym c.check_lent.ensures ∙ c.in_ok-check_lent.was)
+
+pub returns-in_err-totals : goal.returns-in_err-totals
+unfolding write_sheet_verdict ◌then◌
+returns-in_err-totals c = search rules
+
+pub returns : goal.returns
+unfolding write_sheet_verdict ◌then◌
+returns c = search rules

@@ -1,12 +1,9 @@
 -- `spare::left_of` meets its contract.
-use Rattle.spare.proofs.Rooms.{counted_within, left_is}
+use Rattle.spare.specs.Spare.{spare_of}
 use native.Mathlib.Omega.{arith}
 use Rattle.spare.proofs.left_of.Goals as goal
 
-pub overflow_sub-result : goal.overflow_sub-result
-overflow_sub-result c = let p = c.requires in
-    omega (arith, counted_within _ _ p.well_formed.0 p.well_formed.1 _ p.v_lt_f.0 p.v_lt_f.1 _ c.limit_of.ensures.0)
-
 pub returns : goal.returns
-returns c = let p = c.requires in
-    rw c.wide.ensures.0 (left_is _ _ p.well_formed.0 p.well_formed.1 _ p.v_lt_f.0 p.v_lt_f.1 _ c.limit_of.ensures.0)
+unfolding spare_of
+returns c = let p = c.args.job.now.well_formed in
+    omega (arith, c.limit_of.ensures.value, c.requires.counted.count c.args.v.0 (omega (arith, c.requires.known, p.ranged.f_high)))

@@ -1,16 +1,11 @@
 -- `spare::spare` meets its contract.
-use Rattle.spare.proofs.Rooms.{job_refused, job_passed, job_fits}
-use Rattle.refusals.specs.Asked.{spare_verdict}
+use Rattle.refusals.proofs.Asking.{known}
+use Rattle.spare.proofs.Rooms.{job_within}
 use mathlib.Core.Path.{sym, ◌∙◌}
 use Rattle.spare.proofs.spare.Goals as goal
 
-pub spare_in-requires : goal.spare_in-requires
-spare_in-requires c = job_fits _ _ c.check_fitting-checked.ensures _ c.in-Passed.is
+pub left_of-requires-clause-within : goal.left_of-requires-clause-within
+left_of-requires-clause-within c = let e = c.in_ok-fitting.ensures in job_within c.in_ok-fitting.fitting _ e.bytes (sym e.verdict)
 
-pub returns-in-Refused : goal.returns-in-Refused
-unfolding spare_verdict
-returns-in-Refused c = job_refused _ _ c.check_fitting-checked.ensures _ c.in-Refused.is _ _
-
-pub returns-in-Passed : goal.returns-in-Passed
-unfolding spare_verdict
-returns-in-Passed c = rw (job_fits _ _ c.check_fitting-checked.ensures _ c.in-Passed.is).0.f at c.spare_in.ensures ∙ sym (job_passed _ _ c.check_fitting-checked.ensures _ c.in-Passed.is _ _)
+pub left_of-requires-clause-known : goal.left_of-requires-clause-known
+left_of-requires-clause-known c = known _ _ _ (sym c.check_asked.ensures ∙ c.in_ok-check_asked.was)

@@ -1,21 +1,29 @@
 -- `text_reader::read_text` meets its contract.
-use mathlib.Core.Path.{refl, subst}
-use Rattle.form.specs.declared.Formed.{Formed}
-use Rattle.form.specs.Walk.{FormedBy}
+use borrow.Author.Rules.{rules}
+use mathlib.Core.Path.{refl, sym, ap, ◌∙◌}
+use mathlib.Core.List.{List}
+use Prim.Native.Nat.{ℕ}
+use Rattle.std.specs.Borrow.{Bor}
+use Rattle.form.proofs.Alone.{known_whole}
 use Rattle.form.proofs.Whole.{whole_in_form, whole_is}
 use Rattle.text_reader.specs.ReadText.{ReadText}
+use Rattle.text_reader.proofs.Stages.{read_room}
 use Rattle.text_reader.proofs.read_text.Goals as goal
 
-pub read_whole-requires : goal.read_whole-requires
-read_whole-requires c = (subst (λ (r : Formed). FormedBy r c.args.text.now) c.in-Whole.is c.check_form-formed.ensures)
+pub returns-in_err-formed : goal.returns-in_err-formed
+returns-in_err-formed c = ReadText.broken _ c.in_err-formed.ensures.form (search rules) refl
 
-pub written_length-requires : goal.written_length-requires
-written_length-requires c = (subst (λ (r : Formed). FormedBy r c.args.text.now) c.in-Whole.is c.check_form-formed.ensures).n_small
+pub returns-in_err-check_values : goal.returns-in_err-check_values
+returns-in_err-check_values c = let w = known_whole c.in_ok-formed.formed in
+    let told = sym (c.check_values.ensures w.nets.ends w.nets.of w.nets.is) ∙ c.in_err-check_values.was in
+    ReadText.whole _ _ _ _ w.nets.ends (whole_in_form _ _ w) (ap (λ (b : Bor (List ℕ)). b.now) (sym c.in_ok-formed.ensures.text) ∙ whole_is _ _ w) (rw told (search rules)) (rw told)
 
-pub returns-in-Broken : goal.returns-in-Broken
-returns-in-Broken c = ReadText.broken _ (subst (λ (r : Formed). FormedBy r c.args.text.now) c.in-Broken.is c.check_form-formed.ensures) refl refl
+pub put_values-requires : goal.put_values-requires
+put_values-requires c = let w = known_whole c.in_ok-formed.formed in
+    read_room _ _ _ _ w.nets.ends _ (sym (c.check_values.ensures w.nets.ends w.nets.of w.nets.is) ∙ c.in_ok-check_values.was)
 
-pub returns-in-Whole : goal.returns-in-Whole
-returns-in-Whole c = let w = (subst (λ (r : Formed). FormedBy r c.args.text.now) c.in-Whole.is c.check_form-formed.ensures) in
-    let read = c.read_whole.ensures w.nets.ends w.nets.of w.nets.is in
-    ReadText.whole _ _ _ _ w.nets.ends (whole_in_form _ _ w) (whole_is _ _ w) (rw (read.0, c.written_length.ensures) at c.written_by.ensures) (rw read.0 at read.1)
+pub returns : goal.returns
+returns c = let w = known_whole c.in_ok-formed.formed in
+    let told = sym (c.check_values.ensures w.nets.ends w.nets.of w.nets.is) ∙ c.in_ok-check_values.was in
+    ReadText.whole _ _ _ _ w.nets.ends (whole_in_form _ _ w) (ap (λ (b : Bor (List ℕ)). b.now) (sym c.in_ok-formed.ensures.text) ∙ whole_is _ _ w) (rw (told, c.written_length.ensures))
+    (rw told (c.put_values.ensures w.nets.ends w.nets.of w.nets.is))

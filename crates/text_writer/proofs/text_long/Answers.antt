@@ -4,4 +4,4 @@ use Rattle.text_writer.proofs.Long.{text_long}
 use Rattle.text_writer.proofs.text_long.Goals as goal
 
 pub returns : goal.returns
-returns c = omega (arith, c.head_long.ensures.0, c.nets_long.ensures.0, text_long _ _ c.requires)
+returns c = omega (arith, text_long _ _ c.args.job.now.well_formed)

@@ -1,15 +1,15 @@
 -- `walk::visit` meets its contract: the state is `Wending`, and the measure how many labels are still to come. Assumes nothing.
-use Rattle.walk.proofs.Region.{wend_first, wend_again, wend_round, visit_none}
+use Rattle.walk.proofs.Labelling.{wend_first, wend_again, fewer, wend_round}
 use Rattle.walk.proofs.visit.Goals as goal
 
-pub returns-then-s-g-ne-NO_LABEL : goal.returns-then-s-g-ne-NO_LABEL
-returns-then-s-g-ne-NO_LABEL c = search visit_none
+pub loop-labels-init : goal.loop-labels-init
+loop-labels-init c = wend_first _ _ _ _ c.requires.passing c.requires.known
 
-pub loop-s-init : goal.loop-s-init
-loop-s-init c = search wend_first
+pub loop-labels-smaller : goal.loop-labels-smaller
+loop-labels-smaller c = fewer _ _ _ _ _ _ c.loop-labels.invariant c.loop-labels-test.true
 
-pub loop-s-preserved : goal.loop-s-preserved
-loop-s-preserved c = search wend_again
+pub loop-labels-preserved : goal.loop-labels-preserved
+loop-labels-preserved c = wend_again _ _ _ _ _ _ c.loop-labels.invariant c.loop-labels-test.true
 
 pub returns : goal.returns
-returns c = search wend_round
+returns c = wend_round _ _ _ _ _ _ c.loop-labels.invariant c.loop-labels-test.false

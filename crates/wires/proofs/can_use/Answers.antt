@@ -4,4 +4,4 @@ use Rattle.wires.proofs.can_use.Goals as goal
 
 pub returns : goal.returns
 unfolding usable
-returns c = rw c.requires.c
+returns c = rw c.args.job.now.well_formed.c

@@ -1,16 +1,25 @@
 -- `audit::audit::check_sheet` meets its contract.
-use Rattle.words.proofs.Order.{then_refused, then_next}
-use Rattle.audit.proofs.Parts.{wrong_length, right_length}
-use native.Mathlib.Omega.{arith}
+use Rattle.std.proofs.Common.{rules}
 use mathlib.Core.Path.{sym, ◌∙◌}
+use Rattle.words.specs.Verdict.{◌then◌}
+use Rattle.audit.specs.Audit.{against_verdict}
+use Rattle.audit.proofs.Parts.{length_is}
 use Rattle.audit.proofs.audit.check_sheet.Goals as goal
 
-pub returns-then-sheet-sheet_length : goal.returns-then-sheet-sheet_length
-returns-then-sheet-sheet_length c = c.refuse.ensures ∙ sym (wrong_length _ _ (omega arith))
+pub returns-in_err-refuse_if : goal.returns-in_err-refuse_if
+unfolding against_verdict ◌then◌
+returns-in_err-refuse_if c = search rules
 
-pub returns-in-Refused : goal.returns-in-Refused
-returns-in-Refused c = let told = c.in-Refused.is in
-    told ∙ sym (right_length _ _ (omega arith) ∙ then_refused _ _ _ (sym c.check_heads-heads.ensures ∙ told))
+pub check_heads-requires : goal.check_heads-requires
+check_heads-requires c = length_is _ _ c.sheet_length.ensures (sym c.refuse_if.ensures ∙ c.in_ok-refuse_if.was)
+
+pub returns-in_err-check_heads : goal.returns-in_err-check_heads
+unfolding against_verdict ◌then◌
+returns-in_err-check_heads c = search rules
+
+pub check_numbers-requires : goal.check_numbers-requires
+check_numbers-requires c = length_is _ _ c.sheet_length.ensures (sym c.refuse_if.ensures ∙ c.in_ok-refuse_if.was)
 
 pub returns : goal.returns
-returns c = c.check_numbers.ensures ∙ sym (right_length _ _ (omega arith) ∙ then_next _ _ (sym c.check_heads-heads.ensures ∙ c.in_default.is))
+unfolding against_verdict ◌then◌
+returns c = search rules

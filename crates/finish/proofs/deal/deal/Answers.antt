@@ -1,17 +1,17 @@
--- `finish::deal::deal` meets its contract.
-use Rattle.finish.proofs.Dealing.{dealt_none, dealt_more}
-use Rattle.job.specs.Job.{job_in}
+-- `finish::deal::deal`: one more net each turn.
+use mathlib.Core.Path.{◌≡◌}
 use native.Mathlib.Omega.{arith}
-use lib.ListN.{length-set}
-use mathlib.Core.Path.{◌≡◌, refl}
+use Rattle.job.specs.Board.{board_of}
+use Rattle.finish.proofs.Dealing.{dealt_none, dealt_more}
 use Rattle.finish.proofs.deal.deal.Goals as goal
 
-pub loop-i-init : goal.loop-i-init
-loop-i-init c = (omega arith, dealt_none _ _, refl)
+pub loop-net-init : goal.loop-net-init
+loop-net-init c = dealt_none _ _
 
-pub loop-i-preserved : goal.loop-i-preserved
-loop-i-preserved c = let l = c.loop-i in
-    (omega arith, dealt_more _ _ l.i _ _ (omega arith) l.invariant.1 c.dealt_to.ensures.0, simp length-set (omega arith))
+pub loop-net-preserved : goal.loop-net-preserved
+loop-net-preserved c = dealt_more _ _ c.loop-net.net _ _ (omega arith) c.loop-net.invariant c.dealt_to.ensures.value
 
 pub returns : goal.returns
-returns c = let l = c.loop-i in let e : l.i ≡ (job_in c.args.job.now).n = omega (arith, c.requires.0.n) in rw e at l.invariant.1
+returns c =
+    let all : c.loop-net.net ≡ (board_of c.args.job.now).n = omega (arith, c.args.job.now.well_formed.n) in
+    rw all at c.loop-net.invariant

@@ -1,20 +1,14 @@
 -- `fit::spread::greatest_of` meets its contract.
-use Rattle.laws.proofs.Greatest.{greatest_more}
-use Rattle.laws.specs.Row.{at}
+use Rattle.std.specs.Prelude.{ℕ, ◌<◌, ◌≤◌, length}
+use Rattle.std.proofs.Common.{arith, rules}
+use Rattle.std.proofs.lemmas.Grind.{common_steps}
 use Rattle.laws.specs.Sum.{greatest}
-use native.Mathlib.Omega.{arith}
-use mathlib.Core.Path.{◌≡◌, refl}
+use Rattle.laws.specs.Row.{at}
+use Rattle.laws.proofs.Greatest.{greatest_ge, greatest_le}
 use Rattle.fit.proofs.spread.greatest_of.Goals as goal
 
-pub loop-x-init : goal.loop-x-init
-unfolding greatest
-loop-x-init c = (omega arith, refl)
-
-pub loop-x-preserved-then-high-total : goal.loop-x-preserved-then-high-total
-loop-x-preserved-then-high-total c = let l = c.loop-x in (omega arith, omega (arith, greatest_more (at c.args.totals) l.x))
-
-pub loop-x-preserved : goal.loop-x-preserved
-loop-x-preserved c = let l = c.loop-x in (omega arith, omega (arith, greatest_more (at c.args.totals) l.x))
-
 pub returns : goal.returns
-returns c = let l = c.loop-x in let e : l.x ≡ c.args.c = omega arith in rw e at l.invariant.1
+returns c = let xs = c.args.totals.now in
+    let above : (k : ℕ) → k < length xs → at xs k ≤ greatest (at xs) (length xs) = λ k l. greatest_ge (at xs) k (length xs) l in
+    let least = greatest_le (at xs) c.unwrap_or.result (length xs) (search rules) in
+    grind (arith, common_steps, above, least)

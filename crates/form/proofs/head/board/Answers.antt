@@ -1,17 +1,19 @@
 -- `form::head::board` meets its contract.
-use borrow.Author.Tests.{not-true, not-false}
-use Prim.Native.Nat.{◌+◌}
-use Rattle.form.proofs.Heads.{line, board_breaks, f_breaks, c_breaks, board_read}
+use borrow.Author.Rules.{rules}
+use Rattle.form.proofs.Heads.{board_breaks, f_breaks, c_breaks, m_breaks, board_read}
 use Rattle.form.proofs.head.board.Goals as goal
 
-pub returns-then-at_f-lt-BOARD : goal.returns-then-at_f-lt-BOARD
-returns-then-at_f-lt-BOARD c = rw c.broken.ensures (board_breaks _ _ c.word-at_f.ensures c.if-at_f-lt-BOARD.true)
+pub returns-in_err-start : goal.returns-in_err-start
+returns-in_err-start c = let said = board_breaks c.args.text.now c.in_err-start.field-0.0 c.in_err-start.ensures in search rules
 
-pub returns-then-not-f : goal.returns-then-not-f
-returns-then-not-f c = rw c.broken-then-not-f.ensures (f_breaks _ _ c.word-at_f.ensures c.if-at_f-lt-BOARD.false _ (line c.args.text.now c.word-at_f.result c.number-f.ensures) (not-true _ c.if-not-f.true))
+pub returns-in_err-f : goal.returns-in_err-f
+returns-in_err-f c = let said = f_breaks c.args.text.now _ c.in_ok-start.ensures c.in_err-f.field-0.0 c.in_err-f.ensures in search rules
 
-pub returns-then-not-c : goal.returns-then-not-c
-returns-then-not-c c = rw c.broken-then-not-c.ensures (c_breaks _ _ c.word-at_f.ensures c.if-at_f-lt-BOARD.false _ (line c.args.text.now c.word-at_f.result c.number-f.ensures) (not-false _ c.if-not-f.false) _ (line c.args.text.now (c.word-at_f.result + c.number-f.result.long) c.number-c.ensures) (not-true _ c.if-not-c.true))
+pub returns-in_err-c : goal.returns-in_err-c
+returns-in_err-c c = let said = c_breaks c.args.text.now _ c.in_ok-start.ensures _ c.in_ok-f.ensures c.in_err-c.field-0.0 c.in_err-c.ensures in search rules
+
+pub returns-in_err-m : goal.returns-in_err-m
+returns-in_err-m c = let said = m_breaks c.args.text.now _ c.in_ok-start.ensures _ c.in_ok-f.ensures _ c.in_ok-c.ensures c.in_err-m.field-0.0 c.in_err-m.ensures in search rules
 
 pub returns : goal.returns
-returns c = board_read _ _ c.word-at_f.ensures c.if-at_f-lt-BOARD.false _ (line c.args.text.now c.word-at_f.result c.number-f.ensures) (not-false _ c.if-not-f.false) _ (line c.args.text.now (c.word-at_f.result + c.number-f.result.long) c.number-c.ensures) (not-false _ c.if-not-c.false) _ (line c.args.text.now (c.word-at_f.result + c.number-f.result.long + c.number-c.result.long) c.number-m.ensures)
+returns c = board_read _ _ c.in_ok-start.ensures _ c.in_ok-f.ensures _ c.in_ok-c.ensures _ c.in_ok-m.ensures

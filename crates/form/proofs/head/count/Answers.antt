@@ -1,9 +1,10 @@
 -- `form::head::count` meets its contract.
-use Rattle.form.proofs.Heads.{line, count_breaks, count_read}
+use borrow.Author.Rules.{rules}
+use Rattle.form.proofs.Heads.{count_breaks, count_read}
 use Rattle.form.proofs.head.count.Goals as goal
 
-pub returns-then-at_n-lt-NETS : goal.returns-then-at_n-lt-NETS
-returns-then-at_n-lt-NETS c = count_breaks _ _ c.word-at_n.ensures c.if-at_n-lt-NETS.true
+pub returns-in_err-start : goal.returns-in_err-start
+returns-in_err-start c = let said = count_breaks c.args.text.now c.args.at c.requires c.in_err-start.field-0.0 c.in_err-start.ensures in search rules
 
 pub returns : goal.returns
-returns c = count_read _ _ c.word-at_n.ensures c.if-at_n-lt-NETS.false _ (line c.args.rest.now c.word-at_n.result c.number-n.ensures)
+returns c = count_read _ _ c.requires _ c.in_ok-start.ensures _ c.number.ensures

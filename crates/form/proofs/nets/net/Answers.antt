@@ -1,16 +1,13 @@
 -- `form::nets::net` meets its contract.
-use borrow.Author.Tests.{not-true, not-false}
-use mathlib.Core.Path.{subst}
-use mathlib.Core.List.{List}
-use Prim.Native.Nat.{ℕ}
-use Rattle.words.proofs.Bytes.{lent_to_end}
-use Rattle.form.specs.Form.{newline}
-use Rattle.form.specs.Walk.{NumberAt}
-use Rattle.form.proofs.NetLines.{broken_first, both_numbers}
+use borrow.Author.Rules.{rules}
+use Rattle.form.proofs.NetLines.{broken_first, broken_second, both_numbers}
 use Rattle.form.proofs.nets.net.Goals as goal
 
-pub returns-then-not-first : goal.returns-then-not-first
-returns-then-not-first c = broken_first _ _ c.number-first.ensures (not-true _ c.if-not-first.true)
+pub returns-in_err-first : goal.returns-in_err-first
+returns-in_err-first c = let said = broken_first c.args.text.now c.args.at c.in_err-first.field-0.0 c.in_err-first.ensures in search rules
+
+pub returns-in_err-second : goal.returns-in_err-second
+returns-in_err-second c = let said = broken_second c.args.text.now c.args.at _ c.in_ok-first.ensures c.in_err-second.field-0.0 c.in_err-second.ensures in search rules
 
 pub returns : goal.returns
-returns c = both_numbers _ _ c.number-first.ensures (not-false _ c.if-not-first.false) _ (subst (λ (s : List ℕ). NumberAt newline s c.number-second.result) (lent_to_end c.args.rest.now c.number-first.result.long) c.number-second.ensures)
+returns c = both_numbers _ _ _ c.in_ok-first.ensures _ c.in_ok-second.ensures

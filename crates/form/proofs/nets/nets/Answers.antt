@@ -1,26 +1,19 @@
 -- `form::nets::nets` meets its contract.
-use borrow.Author.Tests.{not-true, not-false}
-use mathlib.Core.Path.{subst, ◌≡◌}
-use mathlib.Core.List.{List}
-use Prim.Native.Nat.{ℕ}
+use borrow.Author.Rules.{rules}
 use native.Mathlib.Omega.{arith}
-use Rattle.words.proofs.Bytes.{lent_to_end}
-use Rattle.form.specs.Form.{IsNets}
-use Rattle.form.specs.Walk.{NetAt}
-use Rattle.form.proofs.Stopping.{from_start}
-use Rattle.form.proofs.NetLines.{stops_here, goes_past, all_past}
+use Prim.Native.Nat.{◌+◌, ◌-◌}
+use mathlib.Core.Path.{◌≡◌}
+use Rattle.form.proofs.NetLines.{stops_here, goes_past, none_left}
 use Rattle.form.proofs.nets.nets.Goals as goal
 
-pub loop-left-init : goal.loop-left-init
-loop-left-init c = from_start (IsNets _) _
+pub returns-in_err-end : goal.returns-in_err-end
+returns-in_err-end c = let l = c.loop-i in
+    let said = stops_here c.args.n c.args.text.now c.args.at l.end (c.args.n - l._i) c.in_err-end.field-0.0 (omega arith) l.invariant c.in_err-end.ensures in search rules
 
-pub returns-then-not-line : goal.returns-then-not-line
-returns-then-not-line c = stops_here _ _ _ _ _ c.loop-left-test.true c.loop-left.invariant (subst (λ (s : List ℕ). NetAt s c.net-line.result) (lent_to_end c.args.rest.now c.loop-left.long) c.net-line.ensures) (not-true _ c.if-not-line.true)
-
-pub loop-left-preserved : goal.loop-left-preserved
-loop-left-preserved c = goes_past _ _ _ _ _ c.loop-left-test.true c.loop-left.invariant (subst (λ (s : List ℕ). NetAt s c.net-line.result) (lent_to_end c.args.rest.now c.loop-left.long) c.net-line.ensures) (not-false _ c.if-not-line.false)
+pub loop-i-preserved : goal.loop-i-preserved
+loop-i-preserved c = let l = c.loop-i in
+    let z : c.args.n - l._i - 1 ≡ c.args.n - (l._i + 1) = omega arith in
+    rw z at (goes_past c.args.n c.args.text.now c.args.at l.end (c.args.n - l._i) _ (omega arith) l.invariant c.in_ok-end.ensures)
 
 pub returns : goal.returns
-returns c = let l = c.loop-left in
-    let none : l.left ≡ 0 = omega arith in
-    all_past _ _ _ (rw none at l.invariant)
+returns c = none_left _ _ _ _ _ (omega arith) c.loop-i.invariant

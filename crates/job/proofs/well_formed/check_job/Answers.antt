@@ -1,30 +1,45 @@
 -- `job::well_formed::check_job` meets its contract.
-use Rattle.job.proofs.Stages.{refused_head, refused_length, head_is_long, its_length}
-use Rattle.job.proofs.Passing.{head_few, nets_decide}
+use borrow.Author.Rules.{rules}
+use mathlib.Core.Path.{sym, ◌∙◌}
+use Rattle.words.proofs.Order.{then_done}
+use Rattle.job.proofs.Stages.{head_is_long}
 use Rattle.job.proofs.Reading.{nets_at_small}
-use Rattle.job.specs.declared.Head.{Head}
-use mathlib.Core.Path.{sym, ap, ◌∙◌}
+use Rattle.job.proofs.Passing.{passes, head_few, length_told}
+use Rattle.words.specs.Verdict.{◌then◌}
+use Rattle.job.specs.Check.{job_verdict}
 use Rattle.job.proofs.well_formed.check_job.Goals as goal
 
-pub returns-in-Refused : goal.returns-in-Refused
-returns-in-Refused c = rw (refused_head _ _ (sym c.check_head-first.ensures ∙ c.in-Refused.is))
+pub returns-in_err-check_head-clause-verdict : goal.returns-in_err-check_head-clause-verdict
+unfolding job_verdict ◌then◌
+returns-in_err-check_head-clause-verdict c = search rules
+
+pub returns-in_err-check_length-clause-verdict : goal.returns-in_err-check_length-clause-verdict
+unfolding job_verdict ◌then◌
+returns-in_err-check_length-clause-verdict c = search rules
+
+pub returns-in_err-check_nets-clause-verdict : goal.returns-in_err-check_nets-clause-verdict
+unfolding job_verdict ◌then◌
+returns-in_err-check_nets-clause-verdict c = search rules
+
+pub returns-clause-verdict : goal.returns-clause-verdict
+unfolding job_verdict ◌then◌
+returns-clause-verdict c = search rules
 
 pub head_in-head-requires : goal.head_in-head-requires
-head_in-head-requires c = head_is_long _ (sym c.check_head-first.ensures ∙ c.in_default.is)
+head_in-head-requires c = head_is_long _ (sym c.check_head.ensures ∙ c.in_ok-check_head.was)
 
-pub check_length-long-requires : goal.check_length-long-requires
-check_length-long-requires c = let e = c.head_in-head.ensures in
-    (ap (λ (h : Head). h.n) e, head_few _ _ e (sym c.check_head-first.ensures ∙ c.in_default.is))
+pub check_length-requires : goal.check_length-requires
+check_length-requires c = head_few _ _ c.head_in-head.ensures (sym c.check_head.ensures ∙ c.in_ok-check_head.was)
 
-pub returns-in-Refused-long : goal.returns-in-Refused-long
-returns-in-Refused-long c = rw (refused_length _ (sym c.check_head-first.ensures ∙ c.in_default.is) _ (sym c.check_length-long.ensures ∙ c.in-Refused-long.is))
+pub check_nets-requires-clause-whole : goal.check_nets-requires-clause-whole
+check_nets-requires-clause-whole c = length_told _ _ c.head_in-head.ensures (sym c.check_head.ensures ∙ c.in_ok-check_head.was) (sym c.check_length.ensures ∙ c.in_ok-check_length.was)
 
-pub check_nets-requires : goal.check_nets-requires
-check_nets-requires c = let e = c.head_in-head.ensures in
-    record {
-      start_value = (ap (λ (h : Head). h.start) e, rw e (its_length _ (sym c.check_length-long.ensures ∙ c.in_default-long.is)), head_few _ _ e (sym c.check_head-first.ensures ∙ c.in_default.is));
-      start_bound = rw e (nets_at_small _);
-    }
+pub check_nets-requires-clause-low : goal.check_nets-requires-clause-low
+check_nets-requires-clause-low c = rw c.head_in-head.ensures (nets_at_small _)
 
-pub returns : goal.returns
-returns c = rw (nets_decide _ _ c.head_in-head.ensures (sym c.check_head-first.ensures ∙ c.in_default.is) (sym c.check_length-long.ensures ∙ c.in_default-long.is) _ c.check_nets.ensures, c.checked_by.ensures, c.head_in-head.ensures)
+pub invariant_of-result : goal.invariant_of-result
+unfolding job_verdict
+invariant_of-result c =
+    let nets = rw c.head_in-head.ensures at c.check_nets.ensures in
+    let done = then_done _ _ (sym c.check_head.ensures ∙ c.in_ok-check_head.was) (then_done _ _ (sym c.check_length.ensures ∙ c.in_ok-check_length.was) (sym nets ∙ c.in_ok-check_nets.was)) in
+    record { well_formed = rw c.head_in-head.ensures (passes _ done) }

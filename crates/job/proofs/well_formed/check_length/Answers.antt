@@ -1,16 +1,13 @@
 -- `job::well_formed::check_length` meets its contract.
-use Rattle.job.proofs.Stages.{cut_off, too_long, right_length}
-use native.Mathlib.Omega.{arith}
-use mathlib.Core.Path.{sym, ap, ◌∙◌}
-use Rattle.words.specs.Verdict.{refuse, at_byte}
-use Prim.Native.Nat.{ℕ}
+use borrow.Author.Rules.{rules}
+use Rattle.words.specs.Verdict.{◌then◌}
+use Rattle.job.specs.Check.{length_verdict}
 use Rattle.job.proofs.well_formed.check_length.Goals as goal
 
-pub returns-then-job-end : goal.returns-then-job-end
-returns-then-job-end c = c.refuse.ensures ∙ sym (cut_off _ (omega arith))
-
-pub returns-then-end-job : goal.returns-then-end-job
-returns-then-end-job c = c.refuse-then-end-job.ensures ∙ ap (λ (k : ℕ). refuse 8 (at_byte k)) (omega arith) ∙ sym (too_long _ (omega arith))
+pub returns-in_err-refuse_if : goal.returns-in_err-refuse_if
+unfolding length_verdict ◌then◌
+returns-in_err-refuse_if c = search rules
 
 pub returns : goal.returns
-returns c = sym (right_length _ (omega arith))
+unfolding length_verdict ◌then◌
+returns c = search rules

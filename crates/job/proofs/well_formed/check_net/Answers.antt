@@ -1,17 +1,17 @@
 -- `job::well_formed::check_net` meets its contract.
-use Rattle.job.proofs.Nets.{net_no_first, net_no_second, net_twice, net_joins}
-use native.Mathlib.Omega.{arith}
-use mathlib.Core.Path.{sym, ◌∙◌}
+use borrow.Author.Rules.{rules}
+use Rattle.words.specs.Verdict.{◌then◌}
+use Rattle.job.specs.Check.{net_verdict}
 use Rattle.job.proofs.well_formed.check_net.Goals as goal
 
-pub returns-then-f-v : goal.returns-then-f-v
-returns-then-f-v c = c.refuse.ensures ∙ sym (net_no_first _ _ _ _ _ _ (omega arith) (omega arith))
+pub returns-in_err-refuse_if : goal.returns-in_err-refuse_if
+unfolding net_verdict ◌then◌
+returns-in_err-refuse_if c = search rules
 
-pub returns-then-f-w : goal.returns-then-f-w
-returns-then-f-w c = c.refuse-then-f-w.ensures ∙ sym (net_no_second _ _ _ _ _ _ (omega arith) (omega arith) (omega arith))
-
-pub returns-then-v-w : goal.returns-then-v-w
-returns-then-v-w c = c.refuse-then-v-w.ensures ∙ sym (net_twice _ _ _ _ _ _ (omega arith) (omega arith) (omega arith) (omega arith))
+pub returns-in_err-refuse_if-2 : goal.returns-in_err-refuse_if-2
+unfolding net_verdict ◌then◌
+returns-in_err-refuse_if-2 c = search rules
 
 pub returns : goal.returns
-returns c = sym (net_joins _ _ _ _ _ (omega arith) (omega arith) (omega arith))
+unfolding net_verdict ◌then◌
+returns c = search rules

@@ -1,7 +1,0 @@
--- `hogvuldur_c::hogvuldur_audit` meets its contract.
-use mathlib.Core.Path.{◌∙◌, ap}
-use Rattle.tell.specs.InC.{verdict_in_c}
-use Rattle.hogvuldur_c.proofs.hogvuldur_audit.Goals as goal
-
-pub returns : goal.returns
-returns c = c.tell_verdict.ensures ∙ ap verdict_in_c c.audit.ensures

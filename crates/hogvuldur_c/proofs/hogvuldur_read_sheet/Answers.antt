@@ -1,7 +1,0 @@
--- `hogvuldur_c::hogvuldur_read_sheet` meets its contract.
-use mathlib.Core.Path.{◌∙◌, ap}
-use Rattle.tell.specs.InC.{written_in_c}
-use Rattle.hogvuldur_c.proofs.hogvuldur_read_sheet.Goals as goal
-
-pub returns : goal.returns
-returns c = let e = c.read_sheet.ensures in record { answer_after = c.tell_written.ensures ∙ ap written_in_c e.value; plan_after = e.plan_after }

@@ -1,0 +1,2 @@
+-- What a walk over the nets counts.
+pub mod Picked

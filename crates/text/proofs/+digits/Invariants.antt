@@ -1,5 +1,0 @@
--- The cycle of calls {digits}: n falls, since it is divided by ten.
-use Rattle.text.proofs.+digits.Given as goal
-
-abbrev pub decreases-digits : goal.decreases-digits
-decreases-digits l = l.n
