@@ -1,7 +1,7 @@
 -- What each part of the audit says where it is done, and what the code finds it by.
 -- Assumes nothing.
 use Rattle.words.specs.declared.Reason.TheVariants as reason
-use mathlib.Core.Path.{◌≡◌, ap, sym, ◌∙◌}
+use mathlib.Core.Path.{◌≡◌, ap, ◌∙◌}
 use mathlib.Core.Logic.{◌↔◌}
 use mathlib.Core.List.{List}
 use Prim.Native.Nat.{ℕ, ◌+◌, ◌-◌, ◌*◌, ◌/◌, ◌≤◌, ◌<◌}
@@ -9,12 +9,11 @@ use lib.ListN.{length, take, drop}
 use borrow.Author.Tests.{eq-eqb, eqb-true, not-false}
 use Rattle.laws.specs.Row.{at}
 use Rattle.laws.specs.Count.{Counted}
-use Rattle.std.specs.Prelude.{Ok, Err, not, eqb}
-use Rattle.words.specs.declared.Refusal.{Refusal}
+use Rattle.std.specs.Prelude.{Ok, not, eqb}
 use Rattle.words.specs.Verdict.{refuse_if, ◌then◌, at_byte, at_crossbar, of_length}
 use Rattle.words.specs.Number.{word}
 use Rattle.words.proofs.Bytes.{word_drop, lent_to_end}
-use Rattle.words.proofs.Order.{first_next, first_same, first_stops, tested, tests_say, then_first, then_second, then_done, then_refused, then_next, passed, passes}
+use Rattle.words.proofs.Order.{first_same, tests_say, then_first, then_second, then_done, then_next, passed, passes}
 use Rattle.board.specs.Netlist.{Netlist}
 use Rattle.board.specs.Board.{total, Alike}
 use Rattle.job.specs.Job.{nets_at, c_in}
@@ -45,23 +44,6 @@ heads_say job sheet = (
   λ h. then_done _ _ ((tests_say (unlike job sheet) reason.SheetHead (λ k. at_byte (2 * k)) (nets_at job / 2)).1 (λ k l. rw (eq-eqb _ _ (h.0 k l)))) (passes _ reason.SheetHead _ (rw (eq-eqb _ _ h.1))),
 )
 
--- number by number, where the two were read before
-module _ (job sheet : List ℕ) (k : ℕ) (none : tested (unlike job sheet) reason.SheetHead (λ j. at_byte (2 * j)) k ≡ Ok tt) {x y : ℕ} where
-  module _ (there : x ≡ word sheet (2 * k)) (own : y ≡ word job (2 * k)) where
-    pub unlike_passes : refuse_if (not (eqb x y)) reason.SheetHead (at_byte (2 * k)) ≡ Ok tt → tested (unlike job sheet) reason.SheetHead (λ j. at_byte (2 * j)) (k + 1) ≡ Ok tt
-    unfolding unlike
-    unlike_passes h = first_next _ k none ∙ rw (there, own) at h
-
-    pub unlike_stops : (r : Refusal) → refuse_if (not (eqb x y)) reason.SheetHead (at_byte (2 * k)) ≡ Err r → k < nets_at job / 2 → heads_verdict job sheet ≡ Err r
-    unfolding unlike heads_verdict
-    unlike_stops r h l = then_refused _ _ _ (first_stops _ k _ r none (rw (there, own) at h) l)
-
-  -- and the count behind them
-  pub heads_counted : k ≡ nets_at job / 2 → x ≡ word sheet (totals_count_at job) → y ≡ c_in job
-      → refuse_if (not (eqb x y)) reason.SheetHead (at_byte (totals_count_at job)) ≡ heads_verdict job sheet
-  unfolding heads_verdict
-  heads_counted all there own = rw (there, own) (sym (then_next _ _ (rw all at none)))
-
 -- ---- 26
 
 module _ (J : Netlist) (a : ℕ → ℕ) where
@@ -81,16 +63,6 @@ module _ (J : Netlist) (a : ℕ → ℕ) where
         let written = λ (x : ℕ). word sheet (start + 2 * x) in
         rw (front_long J a counted c few e, lent_to_end sheet start)
         (first_same _ _ c (λ x l. rw (front_counts J a counted c few e x l, word_drop start sheet (2 * x))) ∙ ap (totals_verdict (total J a) written) e)
-
--- crossbar by crossbar, where the written total was read before
-module _ (totals written : ℕ → ℕ) (x : ℕ) {w : ℕ} (there : w ≡ written x) (none : tested (wrong totals written) reason.WrittenTotal at_crossbar x ≡ Ok tt) where
-  pub wrong_passes : refuse_if (not (eqb w (totals x))) reason.WrittenTotal (at_crossbar x) ≡ Ok tt → tested (wrong totals written) reason.WrittenTotal at_crossbar (x + 1) ≡ Ok tt
-  unfolding wrong
-  wrong_passes h = first_next _ x none ∙ rw there at h
-
-  pub wrong_stops : (c : ℕ) (r : Refusal) → refuse_if (not (eqb w (totals x))) reason.WrittenTotal (at_crossbar x) ≡ Err r → x < c → totals_verdict totals written c ≡ Err r
-  unfolding wrong totals_verdict
-  wrong_stops c r h l = first_stops _ x c r none (rw there at h) l
 
 -- of assignments that agree on every net
 module _ (J : Netlist) (a b : ℕ → ℕ) (e : Alike J a b) where

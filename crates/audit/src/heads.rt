@@ -6,18 +6,18 @@ ghost use Rattle.audit.specs.Audit.{heads_verdict};
 use job::Job;
 use sheet::totals_count_at;
 use words::number::read;
-use words::{Place, Reason, Verdict, refuse_if};
+use words::{Place, Reason, Verdict, first_refusal, refuse_if};
 
 // The numbers of the two heads in order, then the totals' count.
 pub fn check_heads(job: &Job, sheet: &[u8]) -> Verdict
     requires { length sheet.now ≡ sheet_length job.now.bytes.now }
     ensures { result ≡ heads_verdict job.now.bytes.now sheet.now }
 {
-    for k in 0..job.head.start / 2 {
+    first_refusal(job.head.start / 2, |k| {
         let at = 2 * k;
         let unlike = read(sheet, at) != read(job.bytes, at);
-        refuse_if(unlike, Reason::SheetHead, Place::Byte(at))?;
-    }
+        refuse_if(unlike, Reason::SheetHead, Place::Byte(at))
+    })?;
     let count_at = totals_count_at(job);
     let wrong = read(sheet, count_at) as usize != job.head.c;
     refuse_if(wrong, Reason::SheetHead, Place::Byte(count_at))

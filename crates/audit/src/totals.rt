@@ -5,7 +5,7 @@ ghost use Rattle.words.specs.Number.{word};
 ghost use Rattle.audit.specs.Audit.{totals_verdict};
 
 use words::number::read;
-use words::{Crossbar, Place, Reason, Verdict, refuse_if};
+use words::{Crossbar, Place, Reason, Verdict, first_refusal, refuse_if};
 
 // Refusal 26, with the lowest crossbar whose total is not the one that is written.
 pub fn check_totals(written: &[u8], totals: &[u16]) -> Verdict
@@ -13,10 +13,9 @@ pub fn check_totals(written: &[u8], totals: &[u16]) -> Verdict
     requires all_written { 2 * length totals.now ≤ length written.now }
     ensures { result ≡ totals_verdict (at totals.now) (λ x. word written.now (2 * x)) (length totals.now) }
 {
-    for (x, total) in totals.iter().enumerate() {
-        let wrong = read(written, 2 * x) != *total;
+    first_refusal(totals.len(), |x| {
+        let wrong = read(written, 2 * x) != totals[x];
         let crossbar = Place::Crossbar(Crossbar(x as u16));
-        refuse_if(wrong, Reason::WrittenTotal, crossbar)?;
-    }
-    Ok(())
+        refuse_if(wrong, Reason::WrittenTotal, crossbar)
+    })
 }

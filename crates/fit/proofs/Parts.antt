@@ -14,10 +14,9 @@ use Rattle.laws.specs.Sum.{greatest}
 use Rattle.laws.specs.Row.{at}
 use Rattle.laws.specs.Count.{Counted}
 use Rattle.laws.proofs.Greatest.{greatest_ge, greatest_le, greatest_same}
-use Rattle.std.specs.Prelude.{Ok, Err, leb}
-use Rattle.words.specs.declared.Refusal.{Refusal}
+use Rattle.std.specs.Prelude.{Ok}
 use Rattle.words.specs.Verdict.{refuse, refuse_if, first_refusal, at_load, at_crossbar}
-use Rattle.words.proofs.Order.{first_done, first_all, first_next, first_same, first_stops, tested, tests_say, tests_stop, then_first, then_second, then_done}
+use Rattle.words.proofs.Order.{first_done, first_all, first_same, first_stops, tests_say, tests_stop, then_first, then_second, then_done}
 use Rattle.board.specs.Netlist.{Netlist}
 use Rattle.board.specs.Board.{total, Legal, Balanced, Alike}
 use Rattle.board.proofs.Excess.{legal_within, within_legal}
@@ -85,16 +84,6 @@ module _ (J : Netlist) (a : ℕ → ℕ) where
         ap (spread_verdict (at (take c totals))) front_long
         ∙ first_same _ _ c (λ x l. rw (front_counts x l, greatest_same (at (take c totals)) (total J a) c front_counts))
         ∙ ap (spread_verdict (total J a)) e
-
--- crossbar by crossbar, where the greatest was found before
-module _ (totals : ℕ → ℕ) (c x : ℕ) {most : ℕ} (found : most ≡ greatest totals c) (none : tested (low totals c) reason.Spread at_crossbar x ≡ Ok tt) where
-  pub low_passes : refuse_if (leb (totals x + 2) most) reason.Spread (at_crossbar x) ≡ Ok tt → tested (low totals c) reason.Spread at_crossbar (x + 1) ≡ Ok tt
-  unfolding low
-  low_passes h = first_next _ x none ∙ rw found at h
-
-  pub low_stops : (r : Refusal) → refuse_if (leb (totals x + 2) most) reason.Spread (at_crossbar x) ≡ Err r → x < c → spread_verdict totals c ≡ Err r
-  unfolding low spread_verdict
-  low_stops r h l = first_stops _ x c r none (rw found at h) l
 
 -- ---- of assignments that agree on every net
 

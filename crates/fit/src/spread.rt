@@ -4,7 +4,7 @@ ghost use Rattle.laws.specs.Sum.{greatest};
 ghost use Rattle.laws.specs.Row.{at};
 ghost use Rattle.fit.specs.Fit.{spread_verdict};
 
-use words::{Crossbar, Place, Reason, Verdict, refuse_if};
+use words::{Crossbar, Place, Reason, Verdict, first_refusal, refuse_if};
 
 // The greatest of the totals, or 0 where there is none.
 fn greatest_of(totals: &[u16]) -> u16
@@ -19,9 +19,8 @@ pub fn check_spread(totals: &[u16]) -> Verdict
     ensures { result ≡ spread_verdict (at totals.now) (length totals.now) }
 {
     let most = greatest_of(totals) as usize;
-    for (x, total) in totals.iter().enumerate() {
-        let crossbar = Place::Crossbar(Crossbar(x as u16));
-        refuse_if(*total as usize + 2 <= most, Reason::Spread, crossbar)?;
-    }
-    Ok(())
+    first_refusal(totals.len(), |x| {
+        let low = totals[x] as usize + 2 <= most;
+        refuse_if(low, Reason::Spread, Place::Crossbar(Crossbar(x as u16)))
+    })
 }

@@ -7,7 +7,7 @@ ghost use Rattle.job.specs.Check.{outside, ranges_verdict, head_verdict, length_
 use crate::read::{ends_at, first_at, head_in, nets_at, second_at};
 use crate::{C_AT, F_AT, HEAD_LONG, Head, Job, M_AT, N_AT};
 use words::number::read;
-use words::{Net, Place, Reason, Refusal, Verdict, refuse_if};
+use words::{Net, Place, Reason, Refusal, Verdict, first_refusal, refuse_if};
 
 fn outside(smallest: usize, largest: usize, x: usize) -> bool
     ensures { result ≡ outside smallest largest x }
@@ -68,11 +68,10 @@ fn check_nets(job: &[u8], head: Head) -> Verdict
     requires low { head.start < 65536 }
     ensures { result ≡ nets_verdict head.f head.start (first_in job.now) (second_in job.now) head.n }
 {
-    for i in 0..head.n {
+    first_refusal(head.n, |i| {
         let (v, w) = ends_at(job, head.start, i);
-        check_net(head.f, head.start, i as u16, v, w)?;
-    }
-    Ok(())
+        check_net(head.f, head.start, i as u16, v, w)
+    })
 }
 
 // The job check.

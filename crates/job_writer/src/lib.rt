@@ -12,7 +12,7 @@ ghost use Rattle.job_writer.specs.Write.{first_of, second_of, written_length, wr
 use job::read::first_at;
 use job::well_formed::{check_net, check_ranges};
 use words::number::{write_behind, write_list};
-use words::{Crossbar, Fpga, Net, Place, Reason, Refusal, Verdict, refuse_if};
+use words::{Crossbar, Fpga, Net, Place, Reason, Refusal, Verdict, first_refusal, refuse_if};
 
 // The numbers of two bytes in front of the nets: a count of three, f, c, m, and n.
 const HEAD: usize = 5;
@@ -25,12 +25,11 @@ fn check_ends(ends: &[u16], f: usize, n: usize) -> Verdict
     requires { (2 * n ≤ length ends.now) × (n ≤ 4096) }
     ensures { result ≡ nets_verdict f head_long (first_of ends.now) (second_of ends.now) n }
 {
-    for i in 0..n {
+    first_refusal(n, |i| {
         let v = ends[2 * i] as usize;
         let w = ends[2 * i + 1] as usize;
-        check_net(f, START, i as u16, v, w)?;
-    }
-    Ok(())
+        check_net(f, START, i as u16, v, w)
+    })
 }
 
 pub fn written_length(n: usize) -> usize

@@ -6,16 +6,15 @@ ghost use Rattle.refusals.specs.Refusals.{range_verdict};
 
 use job::Job;
 use wires::can_use;
-use words::{Net, Place, Reason, Verdict, refuse_if};
+use words::{Net, Place, Reason, Verdict, first_refusal, refuse_if};
 
 // The refusal for this reason, with the lowest net whose crossbar cannot be used.
 pub fn check_range(reason: Reason, job: &Job, plan: &[u16]) -> Verdict
     requires { job.now.head.n ≤ length plan.now }
     ensures { result ≡ range_verdict reason (board_of job.now) (at plan.now) }
 {
-    for i in 0..job.head.n {
+    first_refusal(job.head.n, |i| {
         let usable = can_use(job, plan[i] as usize);
-        refuse_if(!usable, reason, Place::Net(Net(i as u16)))?;
-    }
-    Ok(())
+        refuse_if(!usable, reason, Place::Net(Net(i as u16)))
+    })
 }

@@ -120,10 +120,6 @@ module _ (t : ℕ → Bool) (k : Reason) (place : ℕ → Place) where
   abbrev pub tested : ℕ → Verdict
   tested = first_refusal (λ i. refuse_if (t i) k (place i))
 
-  pub tests_start : tested 0 ≡ Ok tt
-  unfolding first_refusal
-  tests_start = refl
-
   pub tests_stop : (i n : ℕ) → tested i ≡ Ok tt → t i ≡ true → i < n → tested n ≡ refuse k (place i)
   tests_stop i n p h l = first_stops _ i n _ p (refuses (t i) k (place i) h) l
 

@@ -1,8 +1,9 @@
 // The customer's words: three sorts of count, a refusal with its place, and numbers of two bytes.
 #![tactic(auto)]
 
-ghost use Rattle.std.specs.Prelude.{◌≡◌};
-ghost use Rattle.words.specs.Verdict.{place_p, place_q, number_of, p_of, q_of, refuse_if};
+ghost use Rattle.std.specs.Prelude.{◌≡◌, ℕ, ◌<◌};
+ghost use Rattle.words.specs.Verdict.{Verdict, place_p, place_q, number_of, p_of, q_of, refuse_if, first_refusal};
+ghost use Rattle.words.specs.Checked.{Checks};
 
 pub mod number;
 
@@ -129,6 +130,17 @@ pub fn refuse_if(test: bool, reason: Reason, place: Place) -> Verdict
 {
     if test {
         return Err(Refusal { reason, place });
+    }
+    Ok(())
+}
+
+// The first refusal of a check of 0, 1, .., n - 1.
+pub fn first_refusal<F: Fn(usize) -> Verdict>(n: usize, check: F) -> Verdict
+    requires { (i : ℕ) → i < n → F.pre check i }
+    ensures { (g : ℕ → Verdict) → Checks (F.post check) g n → result ≡ first_refusal g n }
+{
+    for i in 0..n {
+        check(i)?;
     }
     Ok(())
 }

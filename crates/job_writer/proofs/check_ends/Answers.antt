@@ -1,18 +1,11 @@
 -- `job_writer::check_ends` meets its contract.
-use Rattle.job.proofs.Nets.{nets_none, nets_pass, nets_stop}
-use borrow.Author.Rules.{rules}
-use native.Mathlib.Omega.{arith}
-use mathlib.Core.Path.{refl, sym, ◌∙◌}
+use Rattle.std.proofs.Common.{rules}
+use Rattle.job.specs.Job.{head_long}
+use Rattle.job.specs.Check.{net_verdict, nets_verdict}
+use Rattle.job_writer.specs.Write.{first_of, second_of}
 use Rattle.job_writer.proofs.check_ends.Goals as goal
 
-pub loop-i-init : goal.loop-i-init
-loop-i-init c = nets_none _ _ _ _
-
-pub returns-in_err-check_net : goal.returns-in_err-check_net
-returns-in_err-check_net c = let l = c.loop-i in
-    let said = nets_stop _ _ _ _ l.i _ _ refl refl l.invariant c.args.n _ (omega arith) (sym c.check_net.ensures ∙ c.in_err-check_net.was) in
-    search rules
-
-pub loop-i-preserved : goal.loop-i-preserved
-loop-i-preserved c = let l = c.loop-i in
-    nets_pass _ _ _ _ l.i _ _ refl refl l.invariant (sym c.check_net.ensures ∙ c.in_ok-check_net.was)
+pub returns : goal.returns
+unfolding nets_verdict
+returns c = let ends = c.args.ends.now in
+    c.first_refusal.ensures (λ i. net_verdict c.args.f head_long i (first_of ends i) (second_of ends i)) (λ i b l q. search rules)

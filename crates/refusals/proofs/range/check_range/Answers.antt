@@ -1,25 +1,15 @@
 -- `refusals::range::check_range` meets its contract.
-use Rattle.refusals.proofs.Faults.{beyond, beyond_passes, beyond_stops}
-use Rattle.words.proofs.Order.{tests_start}
-use Rattle.job.specs.Job.{n_in}
+use Rattle.std.proofs.Common.{◌≡◌, ℕ, subst, rules}
+use Rattle.std.specs.Prelude.{not}
+use Rattle.laws.specs.Row.{at}
+use Rattle.words.specs.Verdict.{refuse_if, first_refusal, at_net}
+use Rattle.board.specs.Board.{usable}
+use Rattle.job.specs.Board.{board_of}
 use Rattle.refusals.specs.Refusals.{range_verdict}
-use borrow.Author.Rules.{rules}
-use native.Mathlib.Omega.{arith}
-use mathlib.Core.Path.{◌≡◌, sym, ◌∙◌}
 use Rattle.refusals.proofs.range.check_range.Goals as goal
 
-pub loop-i-init : goal.loop-i-init
-loop-i-init c = tests_start _ _ _
-
-pub returns-in_err-refuse_if : goal.returns-in_err-refuse_if
-returns-in_err-refuse_if c = let l = c.loop-i in
-    let said = beyond_stops _ _ _ l.i l.invariant _ c.can_use-usable.ensures (omega (arith, c.args.job.now.well_formed.n)) _ (sym c.refuse_if.ensures ∙ c.in_err-refuse_if.was) in
-    search rules
-
-pub loop-i-preserved : goal.loop-i-preserved
-loop-i-preserved c = let l = c.loop-i in
-    beyond_passes _ _ _ l.i l.invariant _ c.can_use-usable.ensures (sym c.refuse_if.ensures ∙ c.in_ok-refuse_if.was)
-
 pub returns : goal.returns
-unfolding range_verdict beyond
-returns c = let e : c.loop-i.i ≡ n_in c.args.job.now.bytes.now = omega (arith, c.args.job.now.well_formed.n) in sym (rw e at c.loop-i.invariant)
+unfolding range_verdict
+returns c = let j = c.args.job.now in
+    let g = λ (i : ℕ). refuse_if (not (usable (board_of j) (at c.args.plan.now i))) c.args.reason (at_net i) in
+    subst (λ (n : ℕ). c.first_refusal.result ≡ first_refusal g n) j.well_formed.n (c.first_refusal.ensures g (λ i b l q. search rules))
