@@ -9,6 +9,7 @@ use std::io::{Read, Write};
 use text::so_far;
 
 // Reads until the job's room is full or the input ends, and says how many bytes were read.
+// A `while`, since a read gives as many bytes as it likes: none is counted by hand.
 fn read_full<R: Read>(input: &mut R, job: &mut [u8]) -> io::Result<usize>
     ensures { ReadsAtMost result job.new }
 {
