@@ -10,11 +10,11 @@ use native.Mathlib.Numerals.{add-one}
 use native.Mathlib.Omega.{arith}
 use lib.Dec.{leb, eqb}
 use lib.ListN.{length, get_or, take, drop, length-append, length-drop}
-use lib.Seq.{append_snoc, length-take-le, take-suc, get_or-drop}
-use borrow.Author.Tests.{le-leb, leb-false, eq-eqb, ne_eqb}
+use lib.Seq.{append_snoc, length-take-le, take-suc, take_all, get_or-drop}
+use borrow.Author.Tests.{le-leb, leb-false, ne_eqb}
 use Rattle.laws.proofs.Cases.{by_test, by_same}
 use Rattle.laws.proofs.Test.{and_says, or_says, leb_says}
-use Rattle.std.specs.Prelude.{Ok}
+use Rattle.std.specs.Prelude.{Ok, Err}
 use Rattle.text.specs.Forms.{decimal}
 use Rattle.text.proofs.Decimals.{decimal_small, decimal_more}
 use Rattle.form.specs.Form.{number_then}
@@ -177,16 +177,8 @@ module _ (t : List ℕ) (a i v : ℕ) (start : a ≤ i) (small : v < 65536) (cam
     here : get_or (drop a t) (i - a) 0 ≡ get_or t i 0
     here = let z : a + (i - a) ≡ i = omega arith in get_or-drop a t (i - a) 0 ∙ ap (λ (k : ℕ). get_or t k 0) z
 
-    first : eqb (i - a) 0 ≡ eqb i a
-    first = by_same i a (λ e. eq-eqb (i - a) 0 (omega arith) ∙ sym (eq-eqb i a e)) (λ n. ne_eqb (i - a) 0 (λ e. n (omega arith)) ∙ sym (ne_eqb i a n))
-
     next : i - a + 1 ≡ i + 1 - a
     next = omega arith
-
-    -- one digit more
-    pub digit_here : digit_fits (eqb i a) v (get_or t i 0) ≡ true
-        → (48 ≤ get_or t i 0) × (10 * v + (get_or t i 0 - 48) < 65536) × Came (drop a t) (10 * v + (get_or t i 0 - 48)) (i + 1 - a)
-    digit_here fits = rw (here, next) at (digit_next (drop a t) v (i - a) there came (rw (first, here) fits))
 
     -- the byte behind it
     pub whole_number : (after : ℕ) → a < i → get_or t i 0 ≡ after → NumberAt after t a (Ok (record { value = v; end = i + 1 }))
@@ -198,3 +190,46 @@ module _ (t : List ℕ) (a i v : ℕ) (start : a ≤ i) (small : v < 65536) (cam
         by_digits =
             ⊎_elim (λ none. absurd (omega (arith, none.0)))
             (λ digits. rw add-one (take-suc (drop a t) (i - a) 0 there) ∙ ap (λ (p : List ℕ). p ++ (get_or (drop a t) (i - a) 0 ∷ [])) digits ∙ ap (λ (x : ℕ). decimal v ++ (x ∷ [])) (here ∙ e))
+
+-- ---- the same walk over the part of the text that is lent from byte a on, with k bytes of the number so far
+
+abbrev pub rest_of : List ℕ → ℕ → List ℕ
+rest_of t a = take (length t - a) (drop a t)
+
+pub rest_is : (t : List ℕ) (a : ℕ) → rest_of t a ≡ drop a t
+rest_is t a = take_all (length t - a) (drop a t) (omega (arith, length-drop a t))
+
+module _ (t : List ℕ) (a k v : ℕ) (within : a ≤ length t) (small : v < 65536) (came : Came (rest_of t a) v k) where
+  is : rest_of t a ≡ drop a t
+  is = rest_is t a
+
+  back : a + k - a ≡ k
+  back = omega arith
+
+  there_came : Came (drop a t) v (a + k - a)
+  there_came = rw (back, ← is) came
+
+  module _ (inside : k < length (rest_of t a)) where
+    there_inside : a + k < length t
+    there_inside = omega (arith, ap length is, length-drop a t)
+
+    byte_here : get_or t (a + k) 0 ≡ get_or (rest_of t a) k 0
+    byte_here = rw is (sym (get_or-drop a t k 0))
+
+    -- one digit more
+    pub digit_rest : digit_fits (eqb k 0) v (get_or (rest_of t a) k 0) ≡ true → Next (rest_of t a) v k (get_or (rest_of t a) k 0)
+    digit_rest fits = digit_next (rest_of t a) v k inside came fits
+
+    -- the byte behind it
+    pub number_rest : (after : ℕ) → 0 < k → get_or (rest_of t a) k 0 ≡ after → NumberAt after t a (Ok (record { value = v; end = a + k + 1 }))
+    number_rest after positive e = whole_number t a (a + k) v (omega arith) small there_came there_inside after (omega arith) (byte_here ∙ e)
+
+  -- no further
+  pub stuck_rest : (after : ℕ) → k ≤ length (rest_of t a) → (k < length (rest_of t a) → digit_fits (eqb k 0) v (get_or (rest_of t a) k 0) ≡ false) → (k < length (rest_of t a) → 0 < k → get_or (rest_of t a) k 0 ≡ after → ⊥)
+      → NumberAt after t a (Err (record { 0 = a + k }))
+  stuck_rest after l no_digit no_after =
+      record {
+        past = omega arith;
+        within = omega (arith, ap length is, length-drop a t);
+        breaks = rw (back, ← is) (record { v = v; small = small; breaks = record { came = came; no_digit = no_digit; no_after = no_after } });
+      }

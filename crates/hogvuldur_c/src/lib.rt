@@ -8,6 +8,7 @@ ghost use Rattle.words.specs.Verdict.{answer as answered};
 ghost use Rattle.words.specs.Lent.{room_after};
 ghost use Rattle.job.specs.Job.{n_in};
 ghost use Rattle.job.specs.Check.{job_verdict, checked_of};
+ghost use Rattle.job.specs.Checked.{heads};
 ghost use Rattle.job.specs.Read.{net_at};
 ghost use Rattle.job_writer.specs.Write.{written_length, write_verdict, job_of};
 ghost use Rattle.text_reader.specs.ReadText.{ReadText};
@@ -27,6 +28,8 @@ ghost use Rattle.tell.specs.InC.{verdict_in_c, written_in_c, numbers_in_c, net_i
 use audit::audit::audit;
 use evidence::find_fault;
 use hogvuldur::{check, finish, plan};
+use job::well_formed::check_job;
+use job::{Head, Job};
 use job_writer::write_job;
 use reader::{net_of_job, numbers_of};
 use round::one_round;
@@ -35,7 +38,7 @@ use spare::{headroom, spare};
 use tell::{InFour, tell, tell_section};
 use text_reader::read_text;
 use text_writer::write_text;
-use words::{Crossbar, Fpga, Net};
+use words::{Crossbar, Fpga, Net, Refusal};
 
 #[unsafe(no_mangle)]
 pub extern "C" fn hogvuldur_check(job: &[u8], answer: &mut [u64; 4]) -> u16
@@ -58,11 +61,21 @@ pub extern "C" fn hogvuldur_net(job: &[u8], i: u16, answer: &mut [u64; 4]) -> u1
     tell(net_of_job(job, Net(i)), answer)
 }
 
+// The check's answer, with the numbers of the head in the job's place.
+fn heads(checked: Result<Job, Refusal>) -> Result<Head, Refusal>
+    ensures { result ≡ heads checked.entry }
+{
+    match checked {
+        Ok(job) => Ok(job.head),
+        Err(refusal) => Err(refusal),
+    }
+}
+
 #[unsafe(no_mangle)]
 pub extern "C" fn hogvuldur_net_section(job: &[u8], answer: &mut [u64; 4])
     ensures { answer.new ≡ section_in_c (checked_of job.now) }
 {
-    tell_section(job, answer);
+    tell_section(heads(check_job(job)), answer);
 }
 
 #[unsafe(no_mangle)]

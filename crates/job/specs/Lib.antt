@@ -3,3 +3,4 @@ pub mod Job
 pub mod Check
 pub mod Read
 pub mod Board
+pub mod Checked

@@ -2,7 +2,8 @@
 ghost use Rattle.std.specs.Prelude.{◌≡◌, ◌≤◌, ◌<◌, length, IfOk};
 ghost use Rattle.words.specs.Verdict.{verdict_of};
 ghost use Rattle.job.specs.Job.{nets_at, n_in, first_at, first_in, second_in};
-ghost use Rattle.job.specs.Check.{outside, ranges_verdict, head_verdict, length_verdict, net_verdict, nets_verdict, job_verdict};
+ghost use Rattle.job.specs.Check.{outside, ranges_verdict, head_verdict, length_verdict, net_verdict, nets_verdict, job_verdict, checked_of};
+ghost use Rattle.job.specs.Checked.{heads};
 
 use crate::read::{ends_at, first_at, head_in, nets_at, second_at};
 use crate::{C_AT, F_AT, HEAD_LONG, Head, Job, M_AT, N_AT};
@@ -78,6 +79,7 @@ fn check_nets(job: &[u8], head: Head) -> Verdict
 pub fn check_job<'a>(job: &'a [u8]) -> Result<Job<'a>, Refusal>
     ensures verdict { verdict_of result ≡ job_verdict job.now }
     ensures bytes { IfOk result (λ checked. checked.bytes ≡ job.entry) }
+    ensures heads { heads result ≡ checked_of job.now }
 {
     check_head(job)?;
     let head = head_in(job);

@@ -20,7 +20,9 @@ const HEAD: usize = 5;
 // The byte where the nets start.
 pub const START: usize = 2 * HEAD;
 
-// Refusals 9, 27 and 10 for the nets of a list, in order, with the bytes that their numbers would have.
+// Refusals 9, 27 and 10 for the nets of a list, in order, with the bytes that their numbers would have. Out of line: within the writer
+// its counter would stand in memory and not in a register, and the loop take half as long again.
+#[inline(never)]
 fn check_ends(ends: &[u16], f: usize, n: usize) -> Verdict
     requires { (2 * n ≤ length ends.now) × (n ≤ 4096) }
     ensures { result ≡ nets_verdict f head_long (first_of ends.now) (second_of ends.now) n }

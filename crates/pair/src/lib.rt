@@ -1,9 +1,9 @@
 // Pairs items, net ends or nets, by the FPGA that each stands at.
 #![tactic(auto)]
 
-ghost use Rattle.std.specs.Prelude.{◌≡◌, ◌<◌, length};
+ghost use Rattle.std.specs.Prelude.{◌≡◌, ◌<◌, length, replicate, None};
 ghost use Rattle.laws.specs.Row.{at};
-ghost use Rattle.pair.specs.Pair.{ItemsIn, Pairing};
+ghost use Rattle.pair.specs.Pair.{fpga_count, ItemsIn, Pairing};
 ghost use Rattle.pair.specs.Making.{linked, Blank, PairedUpTo, LeftWaiting, PairsAll};
 
 // The FPGAs of the largest board, and one more for a dummy net.
@@ -20,12 +20,12 @@ fn link(mates: &mut [u16], i: u16, j: u16)
     mates[j as usize] = i;
 }
 
-// Pairs items of one FPGA, and hands back the item that waits at each FPGA.
-fn gather(fpgas: &[u16], mates: &mut [u16]) -> [Option<u16>; FPGAS]
-    requires { Blank fpgas.now mates.old }
-    ensures { PairedUpTo (at fpgas.now) (length fpgas.now) mates.new result (length fpgas.now) }
+// Pairs items of one FPGA, and puts down the item that waits at each FPGA. The places are lent, and not handed back: they would stand on the stack twice.
+fn gather(fpgas: &[u16], mates: &mut [u16], wait: &mut [Option<u16>; FPGAS])
+    requires blank { Blank fpgas.now mates.old }
+    requires none_waits { wait.old ≡ replicate fpga_count None }
+    ensures { PairedUpTo (at fpgas.now) (length fpgas.now) mates.new wait.new (length fpgas.now) }
 {
-    let mut wait = [None; FPGAS];
     for (i, fpga) in fpgas.iter().enumerate() {
         let v = *fpga as usize;
         let here = i as u16;
@@ -37,7 +37,6 @@ fn gather(fpgas: &[u16], mates: &mut [u16]) -> [Option<u16>; FPGAS]
             }
         }
     }
-    wait
 }
 
 // Pairs the items that wait with each other: their number is even, so that none is left.
@@ -66,6 +65,7 @@ pub fn pair(fpgas: &[u16], mates: &mut [u16])
     ensures { Pairing fpgas.now mates.new }
 {
     mates.fill(NO_MATE);
-    let wait = gather(fpgas, mates);
+    let mut wait = [None; FPGAS];
+    gather(fpgas, mates, &mut wait);
     sweep(&wait, mates);
 }

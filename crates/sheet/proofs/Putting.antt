@@ -19,9 +19,13 @@ use Rattle.job.specs.Job.{c_in, n_in, job_in}
 use Rattle.job.specs.Check.{WellFormed}
 use Rattle.sheet.specs.Sheet.{totals_count_at, totals_at, sheet_numbers, sheet_of}
 
--- a copy to the front of a room
-pub copied : (s r : List ℕ) (start : ℕ) → start ≤ length s → take start s ++ drop start r ≡ onto (take start s) r
-copied s r start l = let long = length-take-le start s l in rw long
+-- one more byte of a copy
+pub copy_next : (s r room : List ℕ) (i : ℕ) → i < length s → length s ≤ length r → room ≡ onto (take i s) r → set room i (get_or s i 0) ≡ onto (take (i + 1) s) r
+copy_next s r room i l h e =
+    let more : take i s ++ (get_or s i 0 ∷ []) ≡ take (i + 1) s = rw (add-one, take-suc s i 0) in
+    ap (λ (t : List ℕ). set t i (get_or s i 0)) e
+    ∙ onto_next (take i s) r (get_or s i 0) i (length-take-le i s (omega arith)) (omega arith)
+    ∙ ap (λ (t : List ℕ). onto t r) more
 
 -- numbers behind what stands at the front of a room
 put_behind : (front xs r room new : List ℕ) (start : ℕ) → room ≡ onto front r → length front ≡ start → new ≡ take start room ++ onto (bytes xs) (drop start room) → new ≡ onto (front ++ bytes xs) r

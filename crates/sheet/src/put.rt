@@ -11,6 +11,17 @@ use crate::{totals_at, totals_count_at};
 use job::Job;
 use words::number::write_behind;
 
+// All bytes of `from` to the front of the room. Not the library's `copy_from_slice`, which calls `memmove`: a C program that links the library
+// is to need `memcpy` and `memset` only.
+fn copy(room: &mut [u8], from: &[u8])
+    requires { length from.now ≤ length room.old }
+    ensures { room.new ≡ onto from.now room.old }
+{
+    for (i, byte) in from.iter().enumerate() {
+        room[i] = *byte;
+    }
+}
+
 // The sheet of an assignment with these totals to the front of the room.
 pub fn put_sheet(job: &Job, plan: &[u16], totals: &[u16], room: &mut [u8])
     requires every_net { job.now.head.n ≤ length plan.now }
@@ -21,7 +32,7 @@ pub fn put_sheet(job: &Job, plan: &[u16], totals: &[u16], room: &mut [u8])
     let start = job.head.start;
     let n = job.head.n;
     let c = job.head.c;
-    room[..start].copy_from_slice(&job.bytes[..start]);
+    copy(room, &job.bytes[..start]);
     write_behind(room, start, &plan[..n]);
     write_behind(room, totals_count_at(job), &[c as u16]);
     write_behind(room, totals_at(job), &totals[..c]);

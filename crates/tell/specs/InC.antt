@@ -2,7 +2,7 @@
 use Rattle.std.specs.Prelude.{◌≡◌, List, [], ◌∷◌, ℕ, Option, None, Some, Result, Ok, Err}
 use Rattle.words.specs.declared.Net.{Net}
 use Rattle.words.specs.declared.Refusal.{Refusal}
-use Rattle.words.specs.Verdict.{Verdict, number_for, place_p, place_q}
+use Rattle.words.specs.Verdict.{Verdict, number_of, p_of, q_of}
 use Rattle.job.specs.declared.Head.{Head}
 use Rattle.job.specs.Read.{NetEnds, section_from, section_long}
 use Rattle.reader.specs.declared.Numbers.{Numbers}
@@ -22,7 +22,7 @@ InC = ℕ × List ℕ
 
 -- the refusal's number; p and q
 abbrev pub refusal_in_c : Refusal → InC
-refusal_in_c r = (number_for r.reason, four (place_p r.place) (place_q r.place) 0 0)
+refusal_in_c r = (number_of (Err r), four (p_of (Err r)) (q_of (Err r)) 0 0)
 
 -- 0 and what the answer says in four numbers; or the refusal
 abbrev pub answer_in_c : {A : Type 0} → (A → List ℕ) → Result A Refusal → InC

@@ -1,16 +1,16 @@
 // How an answer is told in C: a number that is returned, and four numbers in the caller's `answer`. Codes and zeros here are the C interface.
 #![tactic(auto)]
 
-ghost use Rattle.std.specs.Prelude.{◌≡◌, List, ℕ};
-ghost use Rattle.job.specs.Check.{checked_of};
+ghost use Rattle.std.specs.Prelude.{◌≡◌, ◌≤◌, List, ℕ};
+ghost use Rattle.job.specs.Read.{section_long};
 ghost use Rattle.tell.specs.InC.{InC, four, answer_in_c, numbers_in_c, net_in_c, section_in_c, over_in_four, fault_in_c};
 
 use evidence::Fault;
 use finish::Rounds;
-use job::well_formed::check_job;
+use job::Head;
 use reader::Numbers;
 use search::Over;
-use words::{Fpga, Net, Refusal};
+use words::{Fpga, Net, Refusal, number_of, p_of, q_of};
 
 // What four numbers say, filled up with zeros.
 pub trait InFour {
@@ -109,10 +109,13 @@ impl<T: InFour> Answer for Result<T, Refusal> {
     fn in_c(self) -> (u16, [u64; 4]) {
         match self {
             Ok(said) => (0, said.in_four()),
-            Err(r) => (
-                r.reason as u16,
-                [r.place.p() as u64, r.place.q() as u64, 0, 0],
-            ),
+            Err(r) => {
+                let refused = Err(r);
+                (
+                    number_of(refused),
+                    [p_of(refused) as u64, q_of(refused) as u64, 0, 0],
+                )
+            }
         }
     }
 }
@@ -138,12 +141,13 @@ pub fn tell<T: Answer>(said: T, answer: &mut [u64; 4]) -> u16
     returned
 }
 
-// Where the nets of a job stand; of a refused job four zeros.
-pub fn tell_section(job: &[u8], answer: &mut [u64; 4])
-    ensures { answer.new ≡ section_in_c (checked_of job.now) }
+// Where the nets of a job stand, by the check's answer; of a refused job four zeros.
+pub fn tell_section(checked: Result<Head, Refusal>, answer: &mut [u64; 4])
+    requires { section_long checked ≤ 16384 }
+    ensures { answer.new ≡ section_in_c checked }
 {
-    *answer = match check_job(job) {
-        Ok(checked) => [checked.head.start as u64, 4 * checked.head.n as u64, 0, 0],
+    *answer = match checked {
+        Ok(head) => [head.start as u64, 4 * head.n as u64, 0, 0],
         Err(_) => [0; 4],
     };
 }

@@ -1,12 +1,13 @@
 -- `fit::check_fit` meets its contract.
 use borrow.Author.Rules.{rules}
 use native.Mathlib.Omega.{arith}
-use mathlib.Core.Path.{sym, ◌∙◌}
+use mathlib.Core.Path.{refl, sym, ◌∙◌}
 use Rattle.words.specs.Verdict.{◌then◌}
 use Rattle.laws.specs.Row.{at}
 use Rattle.refusals.proofs.Faults.{range_says}
 use Rattle.job.specs.Board.{board_of}
 use Rattle.fit.specs.Fit.{fit_verdict}
+use Rattle.tally.proofs.Walks.{crossbar_low}
 use Rattle.fit.proofs.Parts.{counted_spread}
 use Rattle.fit.proofs.check_fit.Goals as goal
 
@@ -24,7 +25,7 @@ returns-in_err-check_loads-clause-verdict c = search rules
 pub totals_of-totals-requires-clause-in_range : goal.totals_of-totals-requires-clause-in_range
 totals_of-totals-requires-clause-in_range c = let p = c.args.job.now.well_formed in
     let told = (range_says (board_of c.args.job.now) (at c.args.plan.now) c.args.reason).0 (sym c.check_range.ensures ∙ c.in_ok-check_range.was) in
-    λ i l. omega (arith, told i (omega arith))
+    λ i l. crossbar_low c.args.job.now (at c.args.plan.now) told i (omega arith) _ refl
 
 pub returns-in_err-check_spread-clause-verdict : goal.returns-in_err-check_spread-clause-verdict
 unfolding fit_verdict ◌then◌

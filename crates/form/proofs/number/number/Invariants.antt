@@ -1,7 +1,7 @@
 -- `form::number::number` meets its contract.
-use Rattle.std.proofs.Common.{◌-◌, drop}
+use Rattle.std.proofs.Common.{◌<◌}
 use Rattle.form.specs.Walk.{Came}
 use Rattle.form.proofs.number.number.Given as goal
 
 abbrev pub invariant-loop-i : goal.invariant-loop-i
-invariant-loop-i l = Came (drop l.at l.text) l.value (l.i - l.at)
+invariant-loop-i l = (l.value < 65536) × Came l.rest l.value l.i
